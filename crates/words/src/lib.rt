@@ -1,0 +1,15 @@
+// Bytes and words, the most significant byte first, and answers written to the front of a caller's buffer.
+ghost use Rattle.words.specs.Buffer.{Fills};
+use faults::BufferFault;
+
+// Writes bytes to the front of a buffer and answers how many they are.
+pub fn put(bytes: &[u8], out: &mut [u8]) -> Result<usize, BufferFault>
+    ensures { λ r. ⌜ Fills (now (bytes .entry)) (now (out .entry)) (now (out .exit)) r ⌝ }
+{
+    let n = bytes.len();
+    if out.len() < n {
+        return Err(BufferFault::Short);
+    }
+    out[0..n].copy_from_slice(bytes);
+    Ok(n)
+}
