@@ -6,7 +6,7 @@ use native.Mathlib.Nat.{suc-inj}
 use native.Mathlib.Omega.{arith}
 use lib.Arith.{mod-mul}
 use lib.Dec.{lit<}
-use lib.ListN.{length, take, drop, replicate}
+use lib.ListN.{length, getD, take, drop, replicate}
 use Rattle.words.specs.Words.{Below, word-bytes, bytes, words}
 
 pub below-append : (b : ℕ) (xs ys : List ℕ) → Below b xs → Below b ys → Below b (xs ++ ys)
@@ -111,3 +111,14 @@ append-split (x ∷ a) [] c d l e = absurd (omega arith)
 append-split (x ∷ a) (y ∷ b) c d l e =
     let r = append-split a b c d (suc-inj l) (tail-eq-of-cons-eq e) in
     (λ i. head-eq-of-cons-eq e i ∷ r .0 i, r .1)
+
+-- an element below a bound, at any place
+pub below-getD : (b : ℕ) (xs : List ℕ) (i : ℕ) → 0 < b → Below b xs → getD xs i 0 < b
+below-getD b [] i p h = p
+below-getD b (x ∷ xs) zero p h = h .0
+below-getD b (x ∷ xs) (suc i) p h = below-getD b xs i p (h .1)
+
+-- and all of them, from what a type says of each
+pub below-from : (b : ℕ) (xs : List ℕ) → ((k : ℕ) → getD xs k 0 < b) → Below b xs
+below-from b [] h = tt
+below-from b (x ∷ xs) h = (h 0, below-from b xs (λ k. h (suc k)))
