@@ -1,12 +1,11 @@
 ghost use mathlib.Core.Path.{_≡_};
 ghost use mathlib.Core.Bool.{true};
-ghost use mathlib.Core.List.{[], _∷_, _++_, map};
-ghost use Prim.Native.Nat.{_<_, _≤_};
-ghost use lib.ListN.{length, take};
-ghost use Rattle.std.specs.declared.result.Result.the-variants.{Ok, Err};
+ghost use mathlib.Core.List.{[], map};
+ghost use Prim.Native.Nat.{_≤_};
+ghost use lib.ListN.{length};
 ghost use Rattle.timetable.specs.Hours.{opens-at};
 ghost use Rattle.order.specs.Orders.{opening};
-ghost use Rattle.order.specs.Views.{view, listed};
+ghost use Rattle.order.specs.Views.{view, listed, Pushed};
 use crate::kind::Kind;
 use crate::kind::Order;
 use crate::kind::Orders;
@@ -29,7 +28,7 @@ impl Orders {
 
     // Puts an order behind the others, or hands it back where there are 64.
     pub fn push(&mut self, order: Order) -> Result<(), Order>
-        ensures { λ r. ⌜ elim r [ Ok _ ↦ (length (listed (now (self .entry))) < 64) × (listed (now (self .exit)) ≡ listed (now (self .entry)) ++ view order ∷ []) | Err o ↦ (o ≡ order) × (length (listed (now (self .entry))) ≡ 64) × (now (self .exit) ≡ now (self .entry)) ] ⌝ }
+        ensures { λ r. ⌜ Pushed (now (self .entry)) (now (self .exit)) order r ⌝ }
     {
         let at = self.count;
         if at >= 64 {
@@ -51,7 +50,8 @@ impl Orders {
     pub fn opening(&self, timetable: &Timetable, base: BaseHour) -> u32
         ensures value { λ r. ⌜ r ≡ opening (now (timetable .entry) .bytes) (base .hour) (listed (now (self .entry))) ⌝ }
         ensures open_hour { λ r. ⌜ opens-at (now (timetable .entry) .bytes) r ≡ true ⌝ }
-        ensures latest { λ r. ⌜ r ≤ 1056935 ⌝ }
+        ensures bound { λ r. ⌜ r ≤ 1056935 ⌝ }
+        ensures sharp { λ r. ⌜ r ≤ 1053927 ⌝ }
     {
         let from = u64::from(base.hour());
         let mut hour = from + timetable.wait(from);

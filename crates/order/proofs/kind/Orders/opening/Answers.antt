@@ -42,5 +42,6 @@ returns c =
           ∙ ap (λ h. applied table h (map view os)) (c .wait .ensures .value ∙ ap (next table) start)
           ∙ ap (applied table (next table (c .args .base .hour))) (c .as-slice-orders .ensures .value);
       open-hour = c .loop-order .inv .2;
-      latest = omega (arith, c .as-slice-orders .ensures .few);
+      bound = omega (arith, c .as-slice-orders .ensures .few);
+      sharp = omega (arith, c .as-slice-orders .ensures .few);
     }
