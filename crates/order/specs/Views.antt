@@ -15,7 +15,7 @@ use Rattle.order.specs.declared.kind.Order.{Order}
 use Rattle.order.specs.declared.kind.Orders.{Orders}
 
 abbrev pub view : Order → orders.Order
-view o = record { letter = letter-of (o .kind); amount = o .amount }
+view o = record { letter = letter-of (o .kind); amount = o .value }
 
 -- the orders of a list, the first entered first
 abbrev pub listed : Orders → List orders.Order

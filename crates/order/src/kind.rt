@@ -17,8 +17,8 @@ pub enum Kind {
 #[derive(Clone, Copy)]
 pub struct Order {
     pub(crate) kind: Kind,
-    pub(crate) amount: u32,
-    ghost range: { ranged (letter-of kind) amount ≡ true },
+    pub(crate) value: u32,
+    ghost range: { ranged (letter-of kind) value ≡ true },
 }
 
 // At most 64 orders, in sequence.

@@ -3,8 +3,5 @@ mod kind;
 mod list;
 mod order;
 
-pub use kind::Kind;
-pub use kind::KindDebug;
-pub use kind::KindPartialEq;
 pub use kind::Order;
 pub use kind::Orders;

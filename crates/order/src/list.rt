@@ -18,7 +18,7 @@ impl Orders {
     {
         let unused = Order {
             kind: Kind::Delay,
-            amount: 1,
+            value: 1,
         };
         Orders {
             lines: [unused; 64],

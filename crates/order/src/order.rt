@@ -28,21 +28,15 @@ impl Order {
         match letter {
             'D' if amount >= 1 && amount <= 720 => Ok(Order {
                 kind: Kind::Delay,
-                amount,
+                value: amount,
             }),
             'N' if amount <= 1_000_000 => Ok(Order {
                 kind: Kind::NotBefore,
-                amount,
+                value: amount,
             }),
             'D' | 'N' => Err(OrderFault::Amount(amount_place)),
             _ => Err(OrderFault::Letter(letter_place)),
         }
-    }
-
-    pub fn kind(self) -> Kind
-        ensures { λ r. ⌜ r ≡ self .kind ⌝ }
-    {
-        self.kind
     }
 
     pub fn letter(self) -> u8
@@ -58,7 +52,7 @@ impl Order {
         ensures value { λ r. ⌜ r ≡ view self .amount ⌝ }
         ensures most { λ r. ⌜ r ≤ 1000000 ⌝ }
     {
-        self.amount
+        self.value
     }
 
     // The hour from which the order lets the lock open, whether the timetable has it open or not.
@@ -67,8 +61,8 @@ impl Order {
         ensures fits { λ r. ⌜ r < 2 ^ 33 ⌝ }
     {
         match self.kind {
-            Kind::Delay => u64::from(hour) + u64::from(self.amount),
-            Kind::NotBefore => u64::from(hour.max(self.amount)),
+            Kind::Delay => u64::from(hour) + u64::from(self.amount()),
+            Kind::NotBefore => u64::from(hour.max(self.amount())),
         }
     }
 
@@ -84,7 +78,7 @@ impl Order {
     pub fn key(self, name: &[u8; 8]) -> [u8; 16]
         ensures { λ r. ⌜ r ≡ key-bytes (now (name .entry)) (view self) ⌝ }
     {
-        let [a, b, c, d] = self.amount.to_be_bytes();
+        let [a, b, c, d] = self.amount().to_be_bytes();
         let [e, f, g, h, i, j, k, l] = *name;
         [self.letter(), 0, 0, 0, a, b, c, d, e, f, g, h, i, j, k, l]
     }
@@ -93,27 +87,12 @@ impl Order {
     pub fn key_words(self, name: &[u8; 8]) -> [u32; 16]
         ensures { λ r. ⌜ r ≡ key (now (name .entry)) (view self) ⌝ }
     {
-        let first = u32::from_be_bytes([self.letter(), 0, 0, 0]);
         let [a, b, c, d, e, f, g, h] = *name;
-        let third = u32::from_be_bytes([a, b, c, d]);
-        let fourth = u32::from_be_bytes([e, f, g, h]);
-        [
-            first,
-            self.amount,
-            third,
-            fourth,
-            0,
-            0,
-            0,
-            0,
-            0,
-            0,
-            0,
-            0,
-            0,
-            0,
-            0,
-            0,
-        ]
+        let mut words = [0u32; 16];
+        words[0] = u32::from_be_bytes([self.letter(), 0, 0, 0]);
+        words[1] = self.amount();
+        words[2] = u32::from_be_bytes([a, b, c, d]);
+        words[3] = u32::from_be_bytes([e, f, g, h]);
+        words
     }
 }

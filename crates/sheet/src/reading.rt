@@ -1,13 +1,12 @@
 ghost use mathlib.Core.Path.{_≡_};
 ghost use mathlib.Core.Option.{none, some};
-ghost use mathlib.Core.Logic.{_⊎_};
-ghost use Prim.Native.Nat.{_^_, _<_, _≤_};
+ghost use Prim.Native.Nat.{_^_, _<_};
+ghost use lib.Dec.{ltb};
+ghost use Rattle.std.specs.Options.{isSome};
 ghost use Rattle.std.specs.declared.result.Result.the-variants.{Ok, Err};
-ghost use Rattle.std.specs.declared.option.Option.the-variants.{Some, None};
-ghost use Rattle.order.specs.Orders.{In-range};
-ghost use Rattle.order.specs.Views.{view};
-ghost use Rattle.sheet.specs.Reading.{count as count-of, base, name as name-of, table, order-at, sheet-fault};
+ghost use Rattle.sheet.specs.Reading.{count as count-of, base, name as name-of, table, sheet-fault};
 ghost use Rattle.sheet.specs.Contents.{One-sheet};
+ghost use Rattle.sheet.specs.Views.{Shows};
 use crate::checks::check_orders;
 use crate::checks::check_set_up;
 use crate::checks::check_sizes;
@@ -65,8 +64,8 @@ impl<'a> Reader<'a> {
 
     // The order of a number, counted from 0; none past the last.
     pub fn order(&self, i: usize) -> Option<Order>
-        ensures value { λ r. ⌜ elim r [ Some o ↦ (i < count-of (now (now (self .entry) .bytes))) × (view o ≡ order-at (now (now (self .entry) .bytes)) i) | None ↦ (i < count-of (now (now (self .entry) .bytes)) → In-range (order-at (now (now (self .entry) .bytes)) i) → ⊥) ] ⌝ }
-        ensures read { λ r. ⌜ (sheet-fault (now (now (self .entry) .bytes)) ≡ none → elim r [ Some o ↦ i < count-of (now (now (self .entry) .bytes)) | None ↦ count-of (now (now (self .entry) .bytes)) ≤ i ]) ⌝ }
+        ensures value { λ r. ⌜ Shows (now (now (self .entry) .bytes)) i r ⌝ }
+        ensures read { λ r. ⌜ (sheet-fault (now (now (self .entry) .bytes)) ≡ none → isSome r ≡ ltb i (count-of (now (now (self .entry) .bytes)))) ⌝ }
     {
         let count = self.count();
         if i >= count {

@@ -3,18 +3,16 @@ use mathlib.Core.Path.{_≡_, refl, sym, ap, _∙_}
 use mathlib.Core.Bool.{Bool, true, false}
 use mathlib.Core.List.{List}
 use mathlib.Core.Logic.{inl, inr}
-use Prim.Native.Nat.{ℕ, suc, zero, _+_, _-_, _*_, _/_, _^_, _%_, _<_, _≤_}
+use Prim.Native.Nat.{ℕ, suc, zero, _+_, _-_, _%_, _<_, _≤_}
 use native.Mathlib.Omega.{arith}
-use lib.Dec.{eqb}
-use lib.ListN.{getD}
 use Rattle.std.proofs.shelf.Tests.{both-ways, cases-order}
 use Rattle.std.proofs.shelf.Ways.{decides-below-or}
-use Rattle.timetable.specs.Hours.{opens-at, some-open, ever-open, Next, seek, next}
+use Rattle.timetable.specs.Hours.{bit-at, opens-at, some-open, ever-open, Next, seek, next}
 
 -- hours of the same week hour are open alike
 pub same-week : (table : List ℕ) (h k : ℕ) → h % 168 ≡ k % 168 → opens-at table h ≡ opens-at table k
 unfolding opens-at
-same-week table h k e = ap (λ (r : ℕ). eqb (getD table (r / 8) 0 / 2 ^ (7 - r % 8) % 2) 1) e
+same-week table h k e = ap (bit-at table) e
 
 pub some-open-more : (table : List ℕ) (n : ℕ) → opens-at table n ≡ false → some-open table n ≡ false → some-open table (n + 1) ≡ false
 unfolding some-open
@@ -86,10 +84,10 @@ within-weeks table t u ever e h =
       | inr (inr l) ↦ omega arith
     ]
 
--- the bit that is read for an hour of the week
-pub opens-bit : (table : List ℕ) (w : ℕ) → w < 168 → eqb (getD table (w / 8) 0 / 2 ^ (7 - w % 8) % 2) 1 ≡ opens-at table w
+-- the bit that is read for an hour
+pub opens-bit : (table : List ℕ) (h w : ℕ) → h % 168 ≡ w → opens-at table h ≡ bit-at table w
 unfolding opens-at
-opens-bit table w h = let e : w % 168 ≡ w = omega arith in ap (λ (r : ℕ). eqb (getD table (r / 8) 0 / 2 ^ (7 - r % 8) % 2) 1) (sym e)
+opens-bit table h w e = ap (bit-at table) e
 
 -- the n hours from t on are shut
 abbrev pub Shut : List ℕ → ℕ → ℕ → Type 0

@@ -7,9 +7,13 @@ use Prim.Native.Nat.{ℕ, suc, zero, _+_, _-_, _/_, _^_, _%_, _<_, _≤_}
 use lib.Dec.{eqb}
 use lib.ListN.{getD}
 
--- whether an hour is open: the bit of its hour in the week, bit 7 of a byte being the first of its eight hours
+-- the bit of an hour of the week, bit 7 of a byte being the first of its eight hours
+abbrev pub bit-at : List ℕ → ℕ → Bool
+bit-at table w = eqb (getD table (w / 8) 0 / 2 ^ (7 - w % 8) % 2) 1
+
+-- whether an hour is open
 unfoldable pub opens-at : List ℕ → ℕ → Bool
-opens-at table h = eqb (getD table (h % 168 / 8) 0 / 2 ^ (7 - h % 168 % 8) % 2) 1
+opens-at table h = bit-at table (h % 168)
 
 -- whether one of the first n hours of the week is open
 unfoldable pub some-open : List ℕ → ℕ → Bool

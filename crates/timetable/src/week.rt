@@ -5,7 +5,7 @@ ghost use Prim.Native.Nat.{ℕ, _+_, _<_, _≤_};
 ghost use lib.ListN.{replicate};
 ghost use Rattle.std.specs.declared.result.Result.the-variants.{Ok, Err};
 ghost use Rattle.faults.specs.declared.grounds.TimetableFault.the-variants.{Base, Closed};
-ghost use Rattle.timetable.specs.Hours.{opens-at, ever-open, Next, next};
+ghost use Rattle.timetable.specs.Hours.{bit-at, opens-at, ever-open, Next, next};
 use crate::table::BaseHour;
 use crate::table::Timetable;
 use faults::TimetableFault;
@@ -15,7 +15,7 @@ const WEEK: u64 = 168;
 // The bit of an hour of the week.
 fn opens(bytes: &[u8; 21], week_hour: u64) -> bool
     requires { ⌜ «week_hour» < 168 ⌝ }
-    ensures { λ r. ⌜ r ≡ opens-at (now (bytes .entry)) «week_hour» ⌝ }
+    ensures { λ r. ⌜ r ≡ bit-at (now (bytes .entry)) «week_hour» ⌝ }
 {
     let byte = bytes[(week_hour / 8) as usize];
     (byte >> (7 - week_hour % 8)) % 2 == 1

@@ -4,6 +4,7 @@ use mathlib.Core.List.{[], _∷_, _++_}
 use Prim.Native.Nat.{_+_, _<_, _≤_}
 use native.Mathlib.Omega.{arith}
 use lib.ListN.{length}
+use Rattle.std.proofs.shelf.Tests.{ltb-false}
 use Rattle.order.specs.Views.{view, listed}
 use Rattle.order.proofs.Listing.{pushed-room}
 use Rattle.sheet.specs.Reading.{count, orders-from}
@@ -31,6 +32,6 @@ loop-order-again c =
 pub returns : need.returns
 returns c =
     let bs = c .args .reader .now .bytes .now in
-    let past : count bs ≤ c .loop-order .i = c .in-rest .ensures tt .read (c .pre) in
+    let past : count bs ≤ c .loop-order .i = ltb-false _ _ (sym (c .in-rest .ensures tt .read (c .pre))) in
     let all : c .loop-order .i ≡ count bs = omega arith in
     c .loop-order .inv .0 ∙ ap (orders-from bs 0) all

@@ -7,6 +7,6 @@ use Rattle.order.proofs.kind.Order.key_words.Needs as need
 
 pub returns : need.returns
 returns c =
-    let fits : view (c .args .self) .amount < 2 ^ 32 = omega arith in
+    let fits : view (c .args .self) .amount < 2 ^ 32 = omega (arith, c .amount .ensures .value, c .amount .ensures .most) in
     let e = key-words-are (c .args .name .now) (view (c .args .self)) (c .told-name) fits in
     cc

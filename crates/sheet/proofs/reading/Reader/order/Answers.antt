@@ -1,6 +1,7 @@
-use native.Mathlib.Omega.{arith}
+use mathlib.Core.Path.{_≡_, sym}
+use Prim.Native.Nat.{_≤_}
 use mathlib.Core.Logic.{inl, inr}
-use Rattle.std.proofs.shelf.Tests.{cases-lt}
+use Rattle.std.proofs.shelf.Tests.{cases-lt, le-ltb}
 use Rattle.sheet.specs.Reading.{count}
 use Rattle.sheet.proofs.Opened.{out-of-range, order-in-range}
 use Rattle.sheet.proofs.reading.Reader.order.Needs as need
@@ -11,5 +12,7 @@ returns-in-Err c =
     let i = c .args .i in
     record {
       value = λ h r. out-of-range _ _ _ _ _ (c .in-Err .ensures tt) r;
-      read = λ e. elim (cases-lt i (count bs)) [ inl h ↦ absurd (out-of-range _ _ _ _ _ (c .in-Err .ensures tt) (order-in-range bs i e h)) | inr h ↦ h ];
+      read = λ e.
+          let past : count bs ≤ i = elim (cases-lt i (count bs)) [ inl h ↦ absurd (out-of-range _ _ _ _ _ (c .in-Err .ensures tt) (order-in-range bs i e h)) | inr h ↦ h ] in
+          sym (le-ltb i (count bs) past);
     }

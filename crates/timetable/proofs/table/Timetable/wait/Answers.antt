@@ -4,16 +4,16 @@ use mathlib.Core.Bool.{true}
 use Prim.Native.Nat.{_+_}
 use native.Mathlib.Omega.{arith}
 use Rattle.timetable.specs.Hours.{opens-at}
-use Rattle.timetable.proofs.Hours.{same-week, waits, waits-next, next-once, last-opens}
+use Rattle.timetable.proofs.Hours.{opens-bit, waits, waits-next, next-once, last-opens}
 use Rattle.timetable.proofs.table.Timetable.wait.Needs as need
 
 pub loop-n-again : need.loop-n-again
-loop-n-again c = below-more _ _ (c .loop-n .inv) (same-week _ _ _ (omega arith) ∙ sym (c .opens .ensures) ∙ c .if-opens .left)
+loop-n-again c = below-more _ _ (c .loop-n .inv) (opens-bit _ _ _ (omega arith) ∙ sym (c .opens .ensures) ∙ c .if-opens .left)
 
 pub returns-then-opens : need.returns-then-opens
 returns-then-opens c =
     let table = c .args .self .now .bytes in
-    let opens : opens-at table (c .args .hour + c .loop-n .n) ≡ true = same-week _ _ _ (omega arith) ∙ sym (c .opens .ensures) ∙ c .if-opens .taken in
+    let opens : opens-at table (c .args .hour + c .loop-n .n) ≡ true = opens-bit _ _ _ (omega arith) ∙ sym (c .opens .ensures) ∙ c .if-opens .taken in
     let least = waits table (c .args .hour) (c .loop-n .n) (c .loop-n .inv) opens in
     record {
       least = least;
