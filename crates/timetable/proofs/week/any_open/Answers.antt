@@ -12,7 +12,7 @@ pub loop-w-again : need.loop-w-again
 loop-w-again c = some-open-more (c .args .bytes .now) (c .loop-w .w) (opens-bit _ _ _ (omega arith) ∙ sym (c .opens .ensures) ∙ c .if-opens .left) (c .loop-w .inv)
 
 pub returns-then-opens : need.returns-then-opens
-returns-then-opens c = sym (ever-open-from (c .args .bytes .now) (c .loop-w .w) (c .loop-w-test .taken) (opens-bit _ _ _ (omega arith) ∙ sym (c .opens .ensures) ∙ c .if-opens .taken))
+returns-then-opens c = sym (ever-open-from (c .args .bytes .now) (c .loop-w .w) (omega arith) (opens-bit _ _ _ (omega arith) ∙ sym (c .opens .ensures) ∙ c .if-opens .taken))
 
 pub returns : need.returns
 returns c = sym (never-open (c .args .bytes .now) (c .loop-w .w) (omega arith) (c .loop-w .inv))
