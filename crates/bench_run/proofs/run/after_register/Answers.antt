@@ -3,4 +3,4 @@ use Rattle.std.proofs.shelf.Lists.{take-rest}
 use Rattle.bench_run.proofs.run.after_register.Needs as need
 
 pub returns : need.returns
-returns c = (c .if-rest-n .left, take-rest (c .args .rest .now) (c .args .n))
+returns c = (omega arith, take-rest (c .args .rest .now) (c .args .n))

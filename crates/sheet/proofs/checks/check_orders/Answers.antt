@@ -14,15 +14,15 @@ loop-i-holds c =
 
 pub loop-i-again : need.loop-i-again
 loop-i-again c =
-    order-passed (c .args .bytes .now) (c .loop-i .i) (c .args .count) (c .loop-i-test .taken)
+    order-passed (c .args .bytes .now) (c .loop-i .i) (c .args .count) (omega arith)
     (checked (c .args .bytes .now) (c .loop-i .i) (Ok (c .in-Continue--order .-order)) (c .in-Continue--order .ensures tt))
     ∙ c .loop-i .inv
 
 pub returns-in-Break--order : need.returns-in-Break--order
 returns-in-Break--order c =
     let p = err-from-errBy (c .from-residual .result) (c .from-residual .ensures .1) in
-    rw (p .1, p .2) (sym (c .loop-i .inv) ∙ order-failed (c .args .bytes .now) (c .loop-i .i) (c .args .count) _ (c .loop-i-test .taken)
+    rw (p .1, p .2) (sym (c .loop-i .inv) ∙ order-failed (c .args .bytes .now) (c .loop-i .i) (c .args .count) _ (omega arith)
     (checked (c .args .bytes .now) (c .loop-i .i) (Err _) (c .in-Break--order .ensures tt)))
 
 pub returns : need.returns
-returns c = sym (c .loop-i .inv) ∙ orders-passed (c .args .bytes .now) (c .loop-i .i) (c .args .count) (c .loop-i-test .left)
+returns c = sym (c .loop-i .inv) ∙ orders-passed (c .args .bytes .now) (c .loop-i .i) (c .args .count) (omega arith)
