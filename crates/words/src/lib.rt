@@ -2,6 +2,12 @@
 ghost use Rattle.words.specs.Buffer.{Fills};
 use faults::BufferFault;
 
+mod block;
+mod held;
+
+pub use block::Block;
+pub use block::BlockDebug;
+
 // Writes bytes to the front of a buffer and answers how many they are.
 pub fn put(bytes: &[u8], out: &mut [u8]) -> Result<usize, BufferFault>
     ensures { λ r. ⌜ Fills (now (bytes .entry)) (now (out .entry)) (now (out .exit)) r ⌝ }
