@@ -2,9 +2,12 @@
 ghost use Rattle.words.specs.Buffer.{Fills};
 use faults::BufferFault;
 
+mod bits;
 mod block;
 mod held;
 
+pub use bits::choose;
+pub use bits::majority;
 pub use block::Block;
 pub use block::BlockDebug;
 
