@@ -6,8 +6,8 @@ use native.Mathlib.Omega.{arith}
 use lib.ListN.{length, getD}
 use lib.Bits.{bitXor}
 use Rattle.std.proofs.shelf.Lists.{getD-append-right}
-use Rattle.words.specs.Steps.{at, rotl, grown, next}
-use Rattle.words.proofs.Schedule.{Shifts, Rolled, length-next, grown-next, grown-none}
+use Rattle.words.specs.Steps.{at, rotl, grown, next, Rolled}
+use Rattle.words.proofs.Schedule.{Shifts, length-next, grown-next, grown-none}
 use Rattle.shacal1.specs.Shacal1.{fresh, words}
 
 -- words put in front do not matter

@@ -8,15 +8,11 @@ use native.Mathlib.Omega.{arith}
 use lib.ListN.{length, getD, take, drop, set}
 use Rattle.std.proofs.shelf.Lists.{append-assoc, length-push, length-set, length-drop, getD-append-left, getD-push, getD-set-same, getD-set-other, getD-drop, ext-getD, take-append-drop, take-append-le, take-all}
 use Rattle.std.proofs.shelf.Tests.{cases-eq}
-use Rattle.words.specs.Steps.{at, grown, next}
+use Rattle.words.specs.Steps.{at, grown, next, Rolled}
 
 -- the rule of a new word looks back by places alone, at most sixteen: words put in front do not matter
 abbrev pub Shifts : (ℕ → List ℕ → ℕ) → Type 0
 Shifts fresh = (k ws : List ℕ) (n : ℕ) → length k ≡ 16 → fresh (n + 16) (k ++ ws) ≡ fresh n ws
-
--- sixteen words r, of which the first i are renewed: the word q of the schedule stands at q % 16
-abbrev pub Rolled : (ℕ → List ℕ → ℕ) → List ℕ → List ℕ → ℕ → Type 0
-Rolled fresh k r i = (length r ≡ 16) × ((q : ℕ) → i ≤ q → q < i + 16 → getD r (q % 16) 0 ≡ getD (grown fresh k i) q 0)
 
 module _ (fresh : ℕ → List ℕ → ℕ) where
   grown-step : (k : List ℕ) (n : ℕ) → grown fresh k (n + 1) ≡ grown fresh k n ++ fresh n (grown fresh k n) ∷ []

@@ -1,7 +1,8 @@
 -- What ciphers of many small steps share: operations on words of 32 bits, and steps over a row of them. Assumes nothing.
+use mathlib.Core.Path.{_≡_}
 use mathlib.Core.List.{List, [], _∷_, _++_}
-use Prim.Native.Nat.{ℕ, zero, suc, _+_, _-_, _*_, _/_, _%_, _^_}
-use lib.ListN.{drop, getD}
+use Prim.Native.Nat.{ℕ, zero, suc, _+_, _-_, _*_, _/_, _%_, _^_, _<_, _≤_}
+use lib.ListN.{length, drop, getD}
 use lib.Bits.{bitAnd, bitOr, bitXor}
 use Rattle.words.specs.Words.{add}
 
@@ -51,6 +52,10 @@ grown fresh k (suc n) = let ws = grown fresh k n in ws ++ fresh n ws ∷ []
 unfoldable pub next : (ℕ → List ℕ → ℕ) → List ℕ → List ℕ
 unfolding grown
 next fresh ws = drop 16 (grown fresh ws 16)
+
+-- sixteen words r, of which the first i are renewed: the word q of the schedule stands at q % 16
+abbrev pub Rolled : (ℕ → List ℕ → ℕ) → List ℕ → List ℕ → ℕ → Type 0
+Rolled fresh k r i = (length r ≡ 16) × ((q : ℕ) → i ≤ q → q < i + 16 → getD r (q % 16) 0 ≡ getD (grown fresh k i) q 0)
 
 -- ---- the steps from step i on, over the words that are left, and the same steps undone, the last first
 

@@ -1,4 +1,4 @@
-use Rattle.words.proofs.Schedule.{Rolled}
+use Rattle.words.specs.Steps.{Rolled}
 use Rattle.shacal1.specs.Shacal1.{fresh}
 use Rattle.shacal1.proofs.renewed.Given as given
 
