@@ -4,12 +4,15 @@ use faults::BufferFault;
 
 mod bits;
 mod block;
+mod crossing;
 mod held;
 
 pub use bits::choose;
 pub use bits::majority;
 pub use block::Block;
 pub use block::BlockDebug;
+pub use crossing::put_words;
+pub use crossing::read_words;
 
 // Writes bytes to the front of a buffer and answers how many they are.
 pub fn put(bytes: &[u8], out: &mut [u8]) -> Result<usize, BufferFault>
