@@ -8,6 +8,11 @@ ghost use Rattle.words.specs.Blocks.{held};
 use faults::CipherFault;
 use words::Block;
 
+mod bytes;
+
+pub use bytes::decrypt_bytes;
+pub use bytes::encrypt_bytes;
+
 pub trait Cipher {
     ghost meaning: { Self → Meaning };
 

@@ -6,6 +6,10 @@ use native.Mathlib.Omega.{arith}
 use lib.ListN.{length, take, drop, getD, set}
 use borrow.Rule.Slice.PartMut.{putMid, postOf, post-is}
 use Rattle.std.proofs.shelf.Lists.{append-assoc, append-nil, length-append, length-drop, take-more, take-all, take-at, drop-drop, drop-append-le, drop-at, take-append-le, take-more-same, length-take-le, getD-set-same, take-set, length-set, drop-all}
+use Rattle.std.specs.declared.result.Result.{Result}
+use Rattle.std.specs.declared.result.Result.the-variants.{Ok, Err}
+use Rattle.faults.specs.declared.grounds.BufferFault.{BufferFault}
+use Rattle.words.specs.Buffer.{Fills}
 use Rattle.words.specs.Words.{word-bytes, bytes, words}
 use Rattle.words.proofs.Bytes.{length-words}
 
@@ -78,3 +82,8 @@ written-more ws out old wb i h k e q =
 pub written-all : (ws out old : List ℕ) (i : ℕ) → i ≡ length ws → out ≡ bytes (take i ws) ++ drop (4 * i) old → out ≡ bytes ws ++ drop (4 * length ws) old
 written-all ws out old i e q =
     q ∙ ap (λ z. bytes (take z ws) ++ drop (4 * z) old) e ∙ ap (λ z. bytes z ++ drop (4 * length ws) old) (take-all (length ws) ws (omega arith))
+
+-- a buffer as long as the bytes holds them and no more
+pub fills-whole : (bs old new : List ℕ) (r : Result ℕ BufferFault) → length old ≡ length bs → Fills bs old new r → new ≡ bs
+fills-whole bs old new (Ok n) l (e, h, q) = q ∙ ap (λ z. bs ++ z) (drop-all n old (omega arith)) ∙ append-nil bs
+fills-whole bs old new (Err f) l (e, h, q) = absurd (omega arith)

@@ -7,12 +7,9 @@ use lib.ListN.{length, take, drop, replicate}
 use borrow.Rule.Slice.PartMut.{postOf, post-is}
 use Rattle.std.proofs.shelf.Lists.{length-append, length-replicate, take-append-drop, take-at, drop-at, drop-replicate, length-take-le}
 
-abbrev pub zeros : List ℕ
-zeros = 0 ∷ 0 ∷ 0 ∷ 0 ∷ 0 ∷ 0 ∷ 0 ∷ 0 ∷ []
-
--- the zeros that a copy to the front leaves
-pub left : (n : ℕ) → postOf 0 (n - 0) zeros ≡ replicate (8 - n) 0
-left n = post-is 0 n zeros (omega arith) ∙ drop-replicate n 8 0
+-- of m zeros, those that a copy of n to the front leaves
+pub left : (m n : ℕ) → postOf {X = ℕ} 0 (n - 0) (replicate m 0) ≡ replicate (m - n) 0
+left m n = post-is 0 n (replicate m 0) (omega arith) ∙ drop-replicate n m 0
 
 pub long : (ws : List ℕ) → length ws ≤ 8 → length (ws ++ replicate (8 - length ws) 0) ≡ 8
 long ws h = length-append ws (replicate (8 - length ws) 0) ∙ (let e : length (replicate {A = ℕ} (8 - length ws) 0) ≡ 8 - length ws = length-replicate (8 - length ws) 0 in omega arith)
