@@ -13,7 +13,9 @@ use steps::K1;
 use steps::K3;
 use steps::State;
 use steps::choosing;
+use steps::load;
 use steps::mixing;
+use steps::store;
 use steps::unchoosing;
 use steps::unmixing;
 use steps::unvoting;
@@ -74,38 +76,16 @@ fn encipher(key: &[u32; 16], block: &mut [u32])
     requires { ⌜ length (now block) ≡ 5 ⌝ }
     ensures { λ _. ⌜ now (block .exit) ≡ Enc (now (key .entry)) (now (block .entry)) ⌝ }
 {
-    let s = State {
-        a: block[0],
-        b: block[1],
-        c: block[2],
-        d: block[3],
-        e: block[4],
-    };
-    let s = enciphered(key, s);
-    block[0] = s.a;
-    block[1] = s.b;
-    block[2] = s.c;
-    block[3] = s.d;
-    block[4] = s.e;
+    let s = enciphered(key, load(block));
+    store(s, block);
 }
 
 fn decipher(key: &[u32; 16], block: &mut [u32])
     requires { ⌜ length (now block) ≡ 5 ⌝ }
     ensures { λ _. ⌜ now (block .exit) ≡ Dec (now (key .entry)) (now (block .entry)) ⌝ }
 {
-    let s = State {
-        a: block[0],
-        b: block[1],
-        c: block[2],
-        d: block[3],
-        e: block[4],
-    };
-    let s = deciphered(key, s);
-    block[0] = s.a;
-    block[1] = s.b;
-    block[2] = s.c;
-    block[3] = s.d;
-    block[4] = s.e;
+    let s = deciphered(key, load(block));
+    store(s, block);
 }
 
 // The cipher as a value: it holds nothing.

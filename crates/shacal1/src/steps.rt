@@ -1,5 +1,6 @@
 // The steps: one, one undone, and those of a phase, in which the function and the constant stay.
 ghost use mathlib.Core.Path.{_≡_};
+ghost use lib.ListN.{length};
 ghost use Rattle.words.specs.Steps.{choose as chosen, parity as parityOf, majority as majorityOf};
 ghost use Rattle.shacal1.specs.Shacal1.{turn as turned, unturn as unturned};
 ghost use Rattle.shacal1.specs.Phases.{row, phase, unphase};
@@ -127,4 +128,30 @@ pub(crate) fn unvoting(w: &[u32], block: State) -> State
         s = s.unturn(w[i], majority(s.c.rotate_left(2), s.d, s.e), K2);
     }
     s
+}
+
+// The words of a block.
+pub(crate) fn load(block: &[u32]) -> State
+    requires { ⌜ length (now block) ≡ 5 ⌝ }
+    ensures { λ r. ⌜ row r ≡ now (block .entry) ⌝ }
+{
+    State {
+        a: block[0],
+        b: block[1],
+        c: block[2],
+        d: block[3],
+        e: block[4],
+    }
+}
+
+// The words into a block.
+pub(crate) fn store(s: State, block: &mut [u32])
+    requires { ⌜ length (now block) ≡ 5 ⌝ }
+    ensures { λ _. ⌜ now (block .exit) ≡ row s ⌝ }
+{
+    block[0] = s.a;
+    block[1] = s.b;
+    block[2] = s.c;
+    block[3] = s.d;
+    block[4] = s.e;
 }

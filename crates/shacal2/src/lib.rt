@@ -12,6 +12,8 @@ use schedule::K;
 use schedule::renew;
 use schedule::renewed;
 use steps::State;
+use steps::load;
+use steps::store;
 use steps::turning;
 use steps::unturning;
 use words::Block;
@@ -57,55 +59,21 @@ fn deciphered(key: &[u32; 16], block: State) -> State
     unturning(&K[0..8], &key[0..8], s)
 }
 
-// Only this function calls `enciphered`, so that the compiler takes it in whole.
+// Only this function calls `enciphered`, so that the compiler takes it in whole and orders its sums once more.
 fn encipher(key: &[u32; 16], block: &mut [u32])
     requires { ⌜ length (now block) ≡ 8 ⌝ }
     ensures { λ _. ⌜ now (block .exit) ≡ Enc (now (key .entry)) (now (block .entry)) ⌝ }
 {
-    let s = State {
-        a: block[0],
-        b: block[1],
-        c: block[2],
-        d: block[3],
-        e: block[4],
-        f: block[5],
-        g: block[6],
-        h: block[7],
-    };
-    let s = enciphered(key, s);
-    block[0] = s.a;
-    block[1] = s.b;
-    block[2] = s.c;
-    block[3] = s.d;
-    block[4] = s.e;
-    block[5] = s.f;
-    block[6] = s.g;
-    block[7] = s.h;
+    let s = enciphered(key, load(block));
+    store(s, block);
 }
 
 fn decipher(key: &[u32; 16], block: &mut [u32])
     requires { ⌜ length (now block) ≡ 8 ⌝ }
     ensures { λ _. ⌜ now (block .exit) ≡ Dec (now (key .entry)) (now (block .entry)) ⌝ }
 {
-    let s = State {
-        a: block[0],
-        b: block[1],
-        c: block[2],
-        d: block[3],
-        e: block[4],
-        f: block[5],
-        g: block[6],
-        h: block[7],
-    };
-    let s = deciphered(key, s);
-    block[0] = s.a;
-    block[1] = s.b;
-    block[2] = s.c;
-    block[3] = s.d;
-    block[4] = s.e;
-    block[5] = s.f;
-    block[6] = s.g;
-    block[7] = s.h;
+    let s = deciphered(key, load(block));
+    store(s, block);
 }
 
 // The cipher as a value: it holds nothing.

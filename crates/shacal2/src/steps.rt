@@ -98,3 +98,35 @@ pub(crate) fn unturning(k: &[u32], w: &[u32], block: State) -> State
     }
     s
 }
+
+// The words of a block.
+pub(crate) fn load(block: &[u32]) -> State
+    requires { ⌜ length (now block) ≡ 8 ⌝ }
+    ensures { λ r. ⌜ row r ≡ now (block .entry) ⌝ }
+{
+    State {
+        a: block[0],
+        b: block[1],
+        c: block[2],
+        d: block[3],
+        e: block[4],
+        f: block[5],
+        g: block[6],
+        h: block[7],
+    }
+}
+
+// The words into a block.
+pub(crate) fn store(s: State, block: &mut [u32])
+    requires { ⌜ length (now block) ≡ 8 ⌝ }
+    ensures { λ _. ⌜ now (block .exit) ≡ row s ⌝ }
+{
+    block[0] = s.a;
+    block[1] = s.b;
+    block[2] = s.c;
+    block[3] = s.d;
+    block[4] = s.e;
+    block[5] = s.f;
+    block[6] = s.g;
+    block[7] = s.h;
+}

@@ -1,12 +1,6 @@
--- The five words are read, and the five that come of them are written. Assumes nothing.
 use mathlib.Core.Path.{ap, _∙_}
 use Rattle.shacal1.specs.Shacal1.{Enc}
-use Rattle.shacal1.proofs.Parts.{five-set}
-use Rattle.shacal1.proofs.Laws.{five}
 use Rattle.shacal1.proofs.encipher.Needs as need
 
 pub returns : need.returns
-returns c =
-    let b = c .args .block .now in
-    let r = c .enciphered-s .result in
-    five-set b (r .a) (r .b) (r .c) (r .d) (r .e) (c .pre) ∙ c .enciphered-s .ensures ∙ ap (Enc (c .args .key .now)) (five b (c .pre))
+returns c = c .store .ensures ∙ c .enciphered-s .ensures ∙ ap (Enc (c .args .key .now)) (c .load .ensures)
