@@ -6,6 +6,7 @@ mod bits;
 mod block;
 mod crossing;
 mod held;
+mod sums;
 
 pub use bits::choose;
 pub use bits::majority;
@@ -13,6 +14,7 @@ pub use block::Block;
 pub use block::BlockDebug;
 pub use crossing::put_words;
 pub use crossing::read_words;
+pub use sums::add_words;
 
 // Writes bytes to the front of a buffer and answers how many they are.
 pub fn put(bytes: &[u8], out: &mut [u8]) -> Result<usize, BufferFault>
