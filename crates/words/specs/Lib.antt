@@ -1,2 +1,4 @@
 pub mod Words
 pub mod Buffer
+pub mod Steps
+pub mod Blocks

@@ -1,0 +1,3 @@
+pub mod Shacal1
+pub mod Phases
+pub mod Known

@@ -1,0 +1,4 @@
+pub mod Window
+pub mod Phased
+pub mod Parts
+pub mod Laws

@@ -1,0 +1,3 @@
+pub mod Shacal2
+pub mod Phases
+pub mod Known
