@@ -6,6 +6,8 @@ use Rattle.order.specs.Orders.{apply, applied, opening}
 use Rattle.sheet.specs.Reading.{sheet-fault}
 use Rattle.bench_run.specs.Lines.{refusal-line, opening-line}
 use Rattle.bench_run.specs.Bench.{sheet-opening, outcome, bench}
+use Rattle.shacal1.proofs.Computed as one
+use Rattle.shacal2.proofs.Computed as two
 use Rattle.readings.specs.Readings.{Readings}
 
 pub computed : Readings
@@ -29,4 +31,8 @@ computed = record {
   no-mark = refl;
   no-register = refl;
   no-sheet = refl;
+  shacal1 = one.computed;
+  shacal2 = two.computed;
+  practice-adds = refl;
+  practice-takes = refl;
 }

@@ -7,6 +7,9 @@ use lib.ListN.{replicate}
 use Rattle.timetable.specs.Hours.{next}
 use Rattle.order.specs.Orders.{Order, delay, not-before, apply, opening, key-bytes}
 use Rattle.bench_run.specs.Bench.{bench}
+use Rattle.practice.specs.Practice.{practice}
+use Rattle.shacal1.specs.Known as one
+use Rattle.shacal2.specs.Known as two
 
 -- open from 8:00 to 17:00 on five days
 abbrev pub office : List ℕ
@@ -46,3 +49,8 @@ pub record Readings : Type 0 where
   pub no-mark : bench (codes "Q") ≡ codes "refused 24 bench 0\n"
   pub no-register : bench (codes "P" ++ replicate 7 0) ≡ codes "refused 12 cipher 0\n"
   pub no-sheet : bench (codes "P" ++ replicate 44 0) ≡ codes "refused 18 sheet 36\n"
+  -- schedules, first steps and the block of "abc" of the two SHACALs
+  pub shacal1 : one.Known
+  pub shacal2 : two.Known
+  pub practice-adds : practice .enc (0xFFFFFFFF ∷ 5 ∷ replicate 14 9) (practice .initial) ≡ 0 ∷ 7 ∷ []
+  pub practice-takes : practice .dec (2 ∷ 5 ∷ replicate 14 9) (practice .initial) ≡ 0xFFFFFFFF ∷ 0xFFFFFFFD ∷ []

@@ -6,7 +6,6 @@ ghost use lib.ListN.{length};
 ghost use Rattle.words.specs.Steps.{next};
 ghost use Rattle.shacal1.specs.Shacal1.{fresh, Enc, Dec, shacal1};
 ghost use Rattle.shacal1.specs.Phases.{row};
-ghost use Rattle.shacal1.specs.Known.{Known};
 use cipher::Cipher;
 use faults::CipherFault;
 use steps::K1;
@@ -128,11 +127,4 @@ pub impl Cipher for Shacal1 as Shacal1Cipher {
         decipher(key, block);
         Ok(())
     }
-}
-
-// The definition has the values that it should: the first words of a schedule, the first step, and SHA-1 of "abc".
-pub fn known_stand() -> u8
-    ensures { λ _. ⌜ Known ⌝ }
-{
-    0
 }

@@ -2,3 +2,4 @@ pub mod Window
 pub mod Phased
 pub mod Parts
 pub mod Laws
+pub mod Computed

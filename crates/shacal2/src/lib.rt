@@ -5,7 +5,6 @@ ghost use mathlib.Core.Path.{_≡_};
 ghost use lib.ListN.{length};
 ghost use Rattle.shacal2.specs.Shacal2.{Enc, Dec, shacal2};
 ghost use Rattle.shacal2.specs.Phases.{row};
-ghost use Rattle.shacal2.specs.Known.{Known};
 use cipher::Cipher;
 use faults::CipherFault;
 use schedule::K;
@@ -119,11 +118,4 @@ pub impl Cipher for Shacal2 as Shacal2Cipher {
         decipher(key, block);
         Ok(())
     }
-}
-
-// The definition has the values that it should: the first step, and SHA-256 of "abc".
-pub fn known_stand() -> u8
-    ensures { λ _. ⌜ Known ⌝ }
-{
-    0
 }

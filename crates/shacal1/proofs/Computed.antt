@@ -1,8 +1,9 @@
+-- The known values, by computing. Assumes nothing.
 use mathlib.Core.Path.{refl}
 use Rattle.words.specs.Steps.{grown, forth}
 use Rattle.shacal1.specs.Shacal1.{fresh, words, mix, constant, sum, turn, step, run, Enc}
-use Rattle.shacal1.proofs.known_stand.Needs as need
+use Rattle.shacal1.specs.Known.{Known}
 
-pub returns : need.returns
+pub computed : Known
 unfolding grown forth fresh words mix constant sum turn step run Enc
-returns c = record { w16 = refl; w19 = refl; first = refl; digest = refl }
+computed = record { w16 = refl; w19 = refl; first = refl; digest = refl }
