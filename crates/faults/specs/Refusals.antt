@@ -16,6 +16,8 @@ use Rattle.faults.specs.declared.grounds.OrderFault.{OrderFault}
 use Rattle.faults.specs.declared.grounds.OrderFault.the-variants.{Letter, Amount}
 use Rattle.faults.specs.declared.grounds.SheetFault.{SheetFault}
 use Rattle.faults.specs.declared.grounds.SheetFault.the-variants.{Short, Sizes, Trailing, Timetable, Order}
+use Rattle.faults.specs.declared.grounds.MessageFault.{MessageFault}
+use Rattle.faults.specs.declared.grounds.MessageFault.the-variants.{Limit}
 use Rattle.faults.specs.declared.grounds.BenchFault.{BenchFault}
 use Rattle.faults.specs.declared.grounds.BenchFault.the-variants.{Mark, Cipher, Sheet}
 
@@ -27,6 +29,7 @@ label layer.Timetable = codes "timetable"
 label layer.Order = codes "order"
 label layer.Sheet = codes "sheet"
 label layer.Bench = codes "bench"
+label layer.Message = codes "message"
 
 abbrev refused : ℕ → Layer → ℕ → Refusal
 refused n l p = record { number = n; layer = l; place = p }
@@ -57,3 +60,6 @@ abbrev pub bench-refusal : BenchFault → Refusal
 bench-refusal Mark = refused 24 layer.Bench 0
 bench-refusal (Cipher f) = cipher-refusal f
 bench-refusal (Sheet f) = sheet-refusal f
+
+abbrev pub message-refusal : MessageFault → Refusal
+message-refusal Limit = refused 31 layer.Message 0

@@ -1,5 +1,5 @@
 ghost use mathlib.Core.Path.{_≡_};
-ghost use Rattle.faults.specs.Refusals.{cipher-refusal, buffer-refusal, timetable-refusal, order-refusal, sheet-refusal, bench-refusal, label};
+ghost use Rattle.faults.specs.Refusals.{cipher-refusal, buffer-refusal, timetable-refusal, order-refusal, sheet-refusal, bench-refusal, message-refusal, label};
 use crate::layer::Layer;
 use crate::layer::Refusal;
 
@@ -55,6 +55,12 @@ pub enum BenchFault {
     Sheet(SheetFault),
 }
 
+#[derive(Clone, Copy, PartialEq, Eq, Debug)]
+pub enum MessageFault {
+    // the addition would pass 16,777,216 bytes
+    Limit,
+}
+
 impl Layer {
     // The layer's name as a refusal prints it.
     pub fn name(self) -> &'static [u8]
@@ -67,6 +73,7 @@ impl Layer {
             Layer::Order => b"order",
             Layer::Sheet => b"sheet",
             Layer::Bench => b"bench",
+            Layer::Message => b"message",
         }
     }
 }
@@ -146,6 +153,16 @@ impl BenchFault {
             BenchFault::Mark => refused(24, Layer::Bench, 0),
             BenchFault::Cipher(f) => f.refusal(),
             BenchFault::Sheet(f) => f.refusal(),
+        }
+    }
+}
+
+impl MessageFault {
+    pub fn refusal(self) -> Refusal
+        ensures { λ r. ⌜ r ≡ message-refusal self ⌝ }
+    {
+        match self {
+            MessageFault::Limit => refused(31, Layer::Message, 0),
         }
     }
 }

@@ -7,6 +7,7 @@ pub enum Layer {
     Order,
     Sheet,
     Bench,
+    Message,
 }
 
 // What a refusal tells: its number, its layer and the byte of the sheet that it is about, 0 where it is about none.

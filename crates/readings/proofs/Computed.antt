@@ -6,12 +6,13 @@ use Rattle.order.specs.Orders.{apply, applied, opening}
 use Rattle.sheet.specs.Reading.{sheet-fault}
 use Rattle.bench_run.specs.Lines.{refusal-line, opening-line}
 use Rattle.bench_run.specs.Bench.{sheet-opening, outcome, bench}
+use Rattle.hash.specs.Digests.{padded, cut, chain, digest}
 use Rattle.shacal1.proofs.Computed as one
 use Rattle.shacal2.proofs.Computed as two
 use Rattle.readings.specs.Readings.{Readings}
 
 pub computed : Readings
-unfolding digits opens-at some-open ever-open seek next apply applied opening sheet-fault refusal-line opening-line sheet-opening outcome bench
+unfolding padded cut chain digest digits opens-at some-open ever-open seek next apply applied opening sheet-fault refusal-line opening-line sheet-opening outcome bench
 computed = record {
   same-day = refl;
   last-hour = refl;
@@ -35,4 +36,8 @@ computed = record {
   shacal2 = two.computed;
   practice-adds = refl;
   practice-takes = refl;
+  practice-empty = refl;
+  practice-abc = refl;
+  one-block = refl;
+  two-blocks = refl;
 }

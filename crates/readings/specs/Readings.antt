@@ -8,6 +8,7 @@ use Rattle.timetable.specs.Hours.{next}
 use Rattle.order.specs.Orders.{Order, delay, not-before, apply, opening, key-bytes}
 use Rattle.bench_run.specs.Bench.{bench}
 use Rattle.practice.specs.Practice.{practice}
+use Rattle.hash.specs.Digests.{block-count, digest}
 use Rattle.shacal1.specs.Known as one
 use Rattle.shacal2.specs.Known as two
 
@@ -54,3 +55,7 @@ pub record Readings : Type 0 where
   pub shacal2 : two.Known
   pub practice-adds : practice .enc (0xFFFFFFFF ∷ 5 ∷ replicate 14 9) (practice .initial) ≡ 0 ∷ 7 ∷ []
   pub practice-takes : practice .dec (2 ∷ 5 ∷ replicate 14 9) (practice .initial) ≡ 0xFFFFFFFF ∷ 0xFFFFFFFD ∷ []
+  pub practice-empty : digest practice [] ≡ 0x80000002 ∷ 0x00000004 ∷ []
+  pub practice-abc : digest practice (codes "abc") ≡ 0x61626382 ∷ 0x00000004 ∷ []
+  pub one-block : block-count (replicate 55 7) ≡ 1
+  pub two-blocks : block-count (replicate 56 7) ≡ 2
