@@ -1,5 +1,7 @@
 // The bench: reads a mark, a start register and a sheet from standard input, and prints what the lock shows, or the
 // one line of a refusal. What it prints is the answer of `bench_run::bench`.
+#![tactic(auto)]
+
 ghost use Rattle.std.specs.Prelude.{◌≤◌, IfOk};
 
 use bench_run::bench;

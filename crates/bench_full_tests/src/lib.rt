@@ -1,4 +1,6 @@
 // Tests of the bench over a book, as a table at each refusal's border, and of the room for its answer.
+#![tactic(auto)]
+
 #[cfg(test)]
 mod tests {
     use bench_full::bench;

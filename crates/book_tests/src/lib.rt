@@ -1,6 +1,8 @@
 // Tests of the book through its public calls. The expected values come from tests/model.py, which keeps the start
 // register and never decrypts. The practice cipher commutes and passes over most of a key, so that it hides a wrong
 // sequence: what is told of a register is told of both SHACALs too.
+#![tactic(auto)]
+
 #[cfg(test)]
 mod tests {
     use book::Book;

@@ -1,6 +1,8 @@
 // Block ciphers by meaning and laws. A cipher is whatever has a meaning: a number of words from 1 to 8, an initial
 // value, and encryption and decryption that undo one another under every key of sixteen words. What is proved of
 // every `Cipher` holds of each end behind it.
+#![tactic(auto)]
+
 ghost use Rattle.std.specs.Prelude.{◌≡◌};
 ghost use Rattle.cipher.specs.Meaning.{Meaning, Lawful};
 ghost use Rattle.cipher.specs.Turned.{told, turned};

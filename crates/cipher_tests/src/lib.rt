@@ -1,4 +1,6 @@
 // Tests of the ciphers through their interface. The expected digests are those of sha1sum and sha256sum.
+#![tactic(auto)]
+
 #[cfg(test)]
 mod tests {
     use cipher::{Cipher, decrypt_bytes, encrypt_bytes};

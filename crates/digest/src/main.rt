@@ -1,6 +1,8 @@
 // The program `digest`: prints the digest of standard input in lower-case hexadecimal, over SHACAL-1 with the argument
 // 1, over SHACAL-2 with 2 or with none, over the practice cipher with P. What it cannot do it says in one line on
 // standard error, and it then ends with status 1. It keeps one piece of the input at a time.
+#![tactic(auto)]
+
 use anyhow::anyhow;
 use cipher::Cipher;
 use digest_text::{Choice, choice, line};

@@ -1,5 +1,7 @@
 // The texts of the program `digest`: which argument names which hash, and the line that it prints. Promised: `choice`
 // knows exactly three arguments, and `line` is the digest's bytes in lower-case hexadecimal and a line end.
+#![tactic(auto)]
+
 ghost use Rattle.std.specs.Prelude.{◌≡◌, [], ◌∷◌, ◌++◌, IfOk};
 ghost use Rattle.words.specs.Blocks.{held};
 ghost use Rattle.words.specs.Hex.{hex};

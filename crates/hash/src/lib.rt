@@ -1,4 +1,6 @@
 // The hash over any cipher, streaming: the feed-forward step, and blocks hashed one after the other.
+#![tactic(auto)]
+
 mod close;
 mod grow;
 mod message;

@@ -1,5 +1,7 @@
 // Tests of the hash through its public calls: the examples of FIPS 180-4 for SHA-1 and SHA-256, added in parts of
 // several sizes, and in one call. The expected texts are the standard's, as sha1sum and sha256sum print them.
+#![tactic(auto)]
+
 #[cfg(test)]
 mod tests {
     use cipher::Cipher;

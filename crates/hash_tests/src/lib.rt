@@ -1,4 +1,6 @@
 // Tests of the hash through its public calls. The expected digests are the examples of FIPS 180-4.
+#![tactic(auto)]
+
 #[cfg(test)]
 mod tests {
     use hash::{Message, digest_of};

@@ -1,5 +1,7 @@
 // A book loaded from a sheet: set up from a start register and the sheet's contents, with its orders entered in sequence.
 // Its ledger is the one that the sheet describes. For every cipher.
+#![tactic(auto)]
+
 ghost use Rattle.std.specs.Prelude.{◌≡◌, ◌*◌, [], length};
 ghost use Rattle.std.proofs.Math.Option.{none};
 ghost use Rattle.words.specs.Words.{words as words_of};

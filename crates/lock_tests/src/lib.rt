@@ -1,4 +1,6 @@
 // Tests of the lower half of the lock, as tables: orders, timetables, sheets, and the bench at each refusal's border.
+#![tactic(auto)]
+
 #[cfg(test)]
 mod tests {
     use bench_run::bench;

@@ -1,4 +1,6 @@
 // Encryption and decryption for C to call, so that they can be timed beside C: each is the cipher's meaning on its block.
+#![tactic(auto)]
+
 ghost use Rattle.std.specs.Prelude.{◌≡◌};
 ghost use Rattle.shacal1.specs.Shacal1.{shacal1 as meaningOne};
 ghost use Rattle.shacal2.specs.Shacal2.{shacal2 as meaningTwo};

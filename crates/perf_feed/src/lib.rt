@@ -1,5 +1,7 @@
 // One step of a hash for C to call, so that it can be timed beside C: the block is encrypted and added to what it was.
 // It stands apart from the other exports, so that each cipher has one caller, as in a hash, and is compiled into it.
+#![tactic(auto)]
+
 ghost use Rattle.std.specs.Prelude.{◌≡◌};
 ghost use Rattle.words.specs.Steps.{added};
 ghost use Rattle.shacal1.specs.Shacal1.{shacal1 as meaningOne};

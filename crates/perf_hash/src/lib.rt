@@ -1,5 +1,7 @@
 // Whole messages hashed for C to call, so that they can be timed beside C. Promised: the digest is the standard's, and
 // an answer of false, for a message over the limit, leaves it as it was.
+#![tactic(auto)]
+
 ghost use Rattle.std.specs.Prelude.{◌≡◌};
 ghost use Rattle.sha.specs.Sha.{sha1 as sha1_of, sha256 as sha256_of};
 ghost use Rattle.perf_hash.specs.Exports.{Leaves};

@@ -1,5 +1,7 @@
 // The practice cipher: two words, to which encryption adds the key's first two and from which decryption takes them,
 // with the initial value 1, 2. It hides mistakes of sequence, since its steps commute: it is for practice.
+#![tactic(auto)]
+
 ghost use Rattle.practice.specs.Practice.{practice};
 ghost use Rattle.practice.specs.Laws;
 

@@ -1,4 +1,6 @@
 // Worked readings, computed together by the checker from the definitions that the contracts cite.
+#![tactic(auto)]
+
 ghost use Rattle.std.specs.Prelude.{◌≡◌};
 ghost use Rattle.readings.specs.Readings.{Readings};
 

@@ -1,6 +1,8 @@
 // SHA-1 and SHA-256 by the hash over the two ciphers. Promised: the digest of parts is the one that FIPS 180-4 gives
 // for the bytes that they join to (specs/Standards.antt and specs/Sha.antt have it from the standard alone), and the
 // hash over each cipher agrees with the standard on every message of bytes.
+#![tactic(auto)]
+
 ghost use Rattle.std.specs.Prelude.{◌≡◌};
 ghost use Rattle.sha.specs.Answers.{Sums};
 ghost use Rattle.sha.specs.Claims.{Sha1OverShacal1, Sha256OverShacal2};

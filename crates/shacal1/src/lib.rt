@@ -1,6 +1,8 @@
 // SHACAL-1, the block cipher inside SHA-1: 80 steps over five words under a key of sixteen. Promised: encryption and
 // decryption are those of the definition (specs/Shacal1.antt) for every key and block, they undo one another, and the
 // definition has the values of FIPS 180-4. Nothing is allocated, and the block is read and written once.
+#![tactic(auto)]
+
 ghost use Rattle.std.specs.Prelude.{◌≡◌, length};
 ghost use Rattle.words.specs.Steps.{next};
 ghost use Rattle.shacal1.specs.Shacal1.{fresh, Enc, Dec, shacal1};

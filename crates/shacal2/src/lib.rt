@@ -1,6 +1,8 @@
 // SHACAL-2, the block cipher inside SHA-256: 64 steps over eight words under a key of sixteen. Promised: encryption and
 // decryption are those of the definition (specs/Shacal2.antt) for every key and block, they undo one another, and the
 // definition has the values of FIPS 180-4. Nothing is allocated, and the block is read and written once.
+#![tactic(auto)]
+
 ghost use Rattle.std.specs.Prelude.{◌≡◌, length};
 ghost use Rattle.shacal2.specs.Shacal2.{Enc, Dec, shacal2};
 ghost use Rattle.shacal2.specs.Phases.{row};

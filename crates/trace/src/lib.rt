@@ -1,6 +1,8 @@
 // Where two messages with one digest come together. Walking back from both ends in step, the walk stops at the first
 // place where the pair of chaining value and block differs: there the feed-forward step of the cipher collides. Each
 // message is read once, from the front, and no list of chaining values is kept. For every cipher.
+#![tactic(auto)]
+
 ghost use Rattle.trace.specs.Walk.{Traces};
 
 use crate::walk::walk;

@@ -1,6 +1,8 @@
 // Tests of the trace through its public call. The expected places come from an independent model that keeps every
 // chaining value, those under the practice cipher also by hand: its step doubles a value and adds the block's first
 // two words.
+#![tactic(auto)]
+
 #[cfg(test)]
 mod tests {
     use faults::TraceFault;

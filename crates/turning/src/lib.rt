@@ -1,5 +1,7 @@
 // The register turned by orders: encrypted under the key of each, in sequence, or decrypted back, the last first. For
 // every cipher; that the one undoes the other is proved from the cipher's laws.
+#![tactic(auto)]
+
 ghost use Rattle.std.specs.Prelude.{◌≡◌, map, length, take, drop};
 ghost use Rattle.words.specs.Words.{Row};
 ghost use Rattle.order.specs.Views.{view};

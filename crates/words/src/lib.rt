@@ -1,4 +1,6 @@
 // Bytes and words, the most significant byte first, and answers written to the front of a caller's buffer.
+#![tactic(auto)]
+
 ghost use Rattle.words.specs.Buffer.{Fills};
 
 use faults::BufferFault;

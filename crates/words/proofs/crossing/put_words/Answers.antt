@@ -7,8 +7,8 @@ returns-then-out-n c = (refl, omega (arith, length_bytes c.args.words.now), refl
 
 pub loop-i-preserved : goal.loop-i-preserved
 loop-i-preserved c =
-    written_more c.args.words.now c.loop-i.out c.args.out.now c.copy-from-slice.new.self c.loop-i.i (omega arith) (omega arith) c.loop-i.invariant
-    (c.copy-from-slice.ensures.after ∙ c.to-be-bytes.ensures)
+    written_more c.args.words.now c.loop-i.out c.args.out.now c.copy_from_slice.new.self c.loop-i.i (omega arith) (omega arith) c.loop-i.invariant
+    (c.copy_from_slice.ensures.after ∙ c.to_be_bytes.ensures)
 
 pub returns : goal.returns
 returns c = (

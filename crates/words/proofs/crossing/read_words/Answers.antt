@@ -7,8 +7,8 @@ pub loop-i-preserved : goal.loop-i-preserved
 loop-i-preserved c =
     let bs = c.args.bytes.now in
     let e : length bs ≡ 4 * length c.loop-i.out = omega arith in
-    read_more bs c.loop-i.out c.loop-i.i c.from-be-bytes.result e (omega arith) c.loop-i.invariant
-    (c.from-be-bytes.ensures ∙ sym (word_at (length c.loop-i.out) c.loop-i.i bs e (omega arith)))
+    read_more bs c.loop-i.out c.loop-i.i c.from_be_bytes.result e (omega arith) c.loop-i.invariant
+    (c.from_be_bytes.ensures ∙ sym (word_at (length c.loop-i.out) c.loop-i.i bs e (omega arith)))
 
 pub returns : goal.returns
 returns c =
