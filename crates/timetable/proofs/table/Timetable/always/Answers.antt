@@ -2,6 +2,6 @@ use Rattle.std.proofs.Common.{refl}
 use Rattle.timetable.specs.Hours.{opens_at, some_open, ever_open}
 use Rattle.timetable.proofs.table.Timetable.always.Goals as goal
 
-pub invariant-of-result : goal.invariant-of-result
+pub invariant_of-result : goal.invariant_of-result
 unfolding opens_at some_open ever_open
-invariant-of-result c = (refl, (refl, tt))
+invariant_of-result c = record { long = refl; opens = refl }
