@@ -13,6 +13,6 @@ returns g c =
     record {
       answer = c.decrypt-answer.ensures.answer ∙ ap (λ z. cond z (Ok tt) (Err Block)) t;
       block =
-          fills_whole (bytes new) c.args.block.now c.put-words.new.out c.put-words.result (omega (arith, length_bytes new)) c.put-words.ensures
+          fills_whole (bytes new) c.args.block.now c.put_words.new.out c.put_words.result (omega (arith, length_bytes new)) c.put_words.ensures
           ∙ ap bytes (c.decrypt-answer.ensures.block ∙ ap (λ z. cond z (m.dec c.args.key.now ws) ws) t);
     }

@@ -6,4 +6,4 @@ use Rattle.cipher.proofs.bytes.padded.Goals as goal
 pub returns : goal.returns
 returns c =
     let k = c.args.key.now in
-    ap (λ z. z ++ post_of {X = ℕ} 0 (length k - 0) (replicate 64 0)) c.copy-from-slice.ensures.after ∙ ap (λ z. k ++ z) (left 64 (length k))
+    ap (λ z. z ++ post_of {X = ℕ} 0 (length k - 0) (replicate 64 0)) c.copy_from_slice.ensures.after ∙ ap (λ z. k ++ z) (left 64 (length k))
