@@ -9,7 +9,7 @@ pub returns : goal.returns
 returns g c =
     let m = g.C.Cipher.meaning c.args.cipher.now in
     let h = c.args.chain.now in
-    let answer = c.in-ok-encrypt.ensures.answer in
+    let answer = c.in_ok-encrypt.ensures.answer in
     let wide : length h ≡ m.width = granted_size m.width h answer in
     let n = c.width-n.result in
     let long : length h ≡ n - 0 = omega (arith, wide, c.width-n.ensures) in
@@ -19,5 +19,5 @@ returns g c =
     let kept : length c.encrypt.new.block ≡ length h = search rules in
     record {
       answer = answer;
-      chain = forwarded m h c.args.block.now c.encrypt.new.block _ _ wide c.in-ok-encrypt.ensures.block same kept c.add-words.ensures.onto ∙ sym (turned_at m.width (λ x. forward m x c.args.block.now) h wide);
+      chain = forwarded m h c.args.block.now c.encrypt.new.block _ _ wide c.in_ok-encrypt.ensures.block same kept c.add_words.ensures.onto ∙ sym (turned_at m.width (λ x. forward m x c.args.block.now) h wide);
     }

@@ -16,7 +16,7 @@ returns g c =
       granted = omega arith;
       same = refl;
       counts = refl;
-      bytes = below_from (2 ^ 8) ds (λ k. (c.type-inv.«data» k).fits);
+      bytes = below_from (2 ^ 8) ds (λ k. (c.type_inv.«data» k).fits);
       stands = λ bs before.
           let begun = subst (λ k. Stands m s.count (take (s.count % 64) s.tail) (take k s.chain) bs) (sym wide) before in
           subst (λ h. Stands m (s.count + length ds) (take ((s.count + length ds) % 64) c.grow.new.tail) h (bs ++ ds)) (sym front) (c.grow.ensures s.count bs refl begun);
@@ -27,6 +27,6 @@ returns-then-self-gt-LIMIT g c = record {
   granted = search rules;
   same = search rules;
   counts = search rules;
-  bytes = below_from (2 ^ 8) c.args.«data».now (λ k. (c.type-inv.«data» k).fits);
+  bytes = below_from (2 ^ 8) c.args.«data».now (λ k. (c.type_inv.«data» k).fits);
   stands = search rules;
 }

@@ -12,7 +12,7 @@ pub loop-order-preserved : goal.loop-order-preserved
 loop-order-preserved c =
     let table = c.args.timetable.now.bytes in
     let ever = c.args.timetable.now.opens in
-    let os = c.as-slice-orders.result.now in
+    let os = c.as_slice-orders.result.now in
     let i = c.loop-order.order-index in
     let o = c.order-item.result in
     let before = c.loop-order.hour in
@@ -29,14 +29,14 @@ pub returns : goal.returns
 unfolding opening
 returns c =
     let table = c.args.timetable.now.bytes in
-    let os = c.as-slice-orders.result.now in
+    let os = c.as_slice-orders.result.now in
     let start : c.from-from.result ≡ c.args.base.hour = c.from-from.ensures ∙ c.hour.ensures.value in
     record {
       value = sym (applied_all table c.loop-order.hour os c.loop-order.order-index c.loop-order-test.false)
           ∙ c.loop-order.invariant.0
           ∙ ap (λ h. applied table h (map view os)) (c.wait.ensures.value ∙ ap (next table) start)
-          ∙ ap (applied table (next table c.args.base.hour)) c.as-slice-orders.ensures.value;
-      open-hour = c.loop-order.invariant.2;
-      bound = omega (arith, c.as-slice-orders.ensures.few);
-      sharp = omega (arith, c.as-slice-orders.ensures.few);
+          ∙ ap (applied table (next table c.args.base.hour)) c.as_slice-orders.ensures.value;
+      open_hour = c.loop-order.invariant.2;
+      bound = omega (arith, c.as_slice-orders.ensures.few);
+      sharp = omega (arith, c.as_slice-orders.ensures.few);
     }
