@@ -11,7 +11,10 @@ use Rattle.hash.proofs.parts.digest_of.Goals as goal
 pub returns-in-Err : goal.returns-in-Err
 returns-in-Err g c =
     let refused = c.in-Err.ensures.granted in
-    (refused.0, joined_over c.args.parts.now c.loop-part.part-index c.loop-part.message.count limit _ c.loop-part-test.true c.loop-part.invariant.1.counts refused.1)
+    record {
+      hashes = (refused.0, joined_over c.args.parts.now c.loop-part.part-index c.loop-part.message.count limit _ c.loop-part-test.true c.loop-part.invariant.1.counts refused.1);
+      measured = tt;
+    }
 
 pub loop-part-preserved : goal.loop-part-preserved
 loop-part-preserved g c =
@@ -36,4 +39,7 @@ returns g c =
     let open' = opens_like m (meaning c.loop-part.message.cipher.now) _ _ _ _ _ (sym mine) all c.loop-part.invariant.1 in
     let is = c.finish-2.ensures (flat_map (λ x. x.now) parts) open' ∙ ap (λ n. digest n (flat_map (λ x. x.now) parts)) mine in
     let bytes = below_like (2 ^ 8) _ _ all c.loop-part.invariant.3 in
-    (omega (arith, c.loop-part.invariant.2, c.loop-part.invariant.1.counts, ap length all), is, bytes, row_like m _ _ is (digest_row m (g.met.C.Cipher.lawful c.args.cipher.now) (flat_map (λ x. x.now) parts) bytes))
+    record {
+      hashes = (omega (arith, c.loop-part.invariant.2, c.loop-part.invariant.1.counts, ap length all), is);
+      measured = (bytes, row_like m _ _ is (digest_row m (g.met.C.Cipher.lawful c.args.cipher.now) (flat_map (λ x. x.now) parts) bytes));
+    }

@@ -12,14 +12,14 @@ loop-i-init c =
 pub loop-i-preserved : goal.loop-i-preserved
 loop-i-preserved c =
     order_passed c.args.bytes.now c.loop-i.i c.args.count (omega arith)
-    (checked c.args.bytes.now c.loop-i.i (Ok c.in-ok--order.-order) c.in-ok--order.ensures)
+    (checked c.args.bytes.now c.loop-i.i (Ok c.in_ok-_order._order) c.in_ok-_order.ensures)
     ∙ c.loop-i.invariant
 
-pub returns-in-err--order : goal.returns-in-err--order
-returns-in-err--order c =
-    let p = err_from_is_err_and c.from-residual.result c.from-residual.ensures.1 in
+pub returns-in_err-_order : goal.returns-in_err-_order
+returns-in_err-_order c =
+    let p = err_from_is_err_and c.from_residual.result c.from_residual.ensures.1 in
     rw (p.1, p.2) (sym c.loop-i.invariant ∙ order_failed c.args.bytes.now c.loop-i.i c.args.count _ (omega arith)
-    (checked c.args.bytes.now c.loop-i.i (Err _) c.in-err--order.ensures))
+    (checked c.args.bytes.now c.loop-i.i (Err _) c.in_err-_order.ensures))
 
 pub returns : goal.returns
 returns c = sym c.loop-i.invariant ∙ orders_passed c.args.bytes.now c.loop-i.i c.args.count (omega arith)
