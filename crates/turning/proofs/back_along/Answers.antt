@@ -7,5 +7,5 @@ loop-i-init g c = search (rules, back_none)
 
 pub loop-i-preserved : goal.loop-i-preserved
 loop-i-preserved g c =
-    back_more _ c.args.name.now c.args.register.now c.loop-i.register c.decrypt.new.block _ c.args.orders.now c.loop-i.i c.index-orders-i.result (omega arith) (omega arith) c.index-orders-i.is c.key-words-key.ensures
+    back_more _ c.args.name.now c.args.register.now c.loop-i.register c.decrypt.new.block _ c.args.orders.now c.loop-i.i c.index-orders-i.result (omega arith) (omega arith) c.index-orders-i.is c.key_words-key.ensures
     (search rules) c.loop-i.invariant c.decrypt.ensures.block

@@ -6,6 +6,6 @@ pub returns : goal.returns
 unfolding opening_line
 returns c = record {
   after = c.push.ensures.after ∙ ap (λ (x : List ℕ). x ++ codes "\n")
-      (c.push-decimal-end.ensures.after ∙ (λ i. c.push-opening.ensures.after i ++ decimal (c.from.ensures i)));
+      (c.push_decimal-end.ensures.after ∙ (λ i. c.push-opening.ensures.after i ++ decimal (c.from.ensures i)));
   bound = omega arith;
 }

@@ -8,8 +8,8 @@ use Rattle.sheet.proofs.Laws.{length_orders}
 use Rattle.bench_run.proofs.Loading.{orders_push}
 use Rattle.bench_run.proofs.load.load.Goals as goal
 
-pub overflow-add-i : goal.overflow-add-i
-overflow-add-i c =
+pub overflow_add-i : goal.overflow_add-i
+overflow_add-i c =
     let bs = c.args.reader.now.bytes.now in
     let near : c.loop-order.i < 64 = omega (arith, c.in-Some.ensures.value.0, (none_fault bs c.requires).0.few) in
     search rules
@@ -29,7 +29,7 @@ loop-order-preserved c =
 pub returns : goal.returns
 returns c =
     let bs = c.args.reader.now.bytes.now in
-    let none : ltb c.loop-order.i (count bs) ≡ false = sym (c.in-default.ensures.read c.requires) in
+    let none : ltb c.loop-order.i (count bs) ≡ false = sym (c.in_default.ensures.read c.requires) in
     let past : count bs ≤ c.loop-order.i = ltb-false c.loop-order.i (count bs) none in
     let all : c.loop-order.i ≡ count bs = omega arith in
     c.loop-order.invariant.0 ∙ ap (orders_from bs 0) all
