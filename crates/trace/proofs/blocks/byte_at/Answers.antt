@@ -4,8 +4,8 @@ use Rattle.trace.proofs.Cuts.{counted}
 use Rattle.trace.proofs.Bytes.{byte_in, byte_mark, byte_zero, byte_length}
 use Rattle.trace.proofs.blocks.byte_at.Goals as goal
 
-pub overflow-mul-end : goal.overflow-mul-end
-overflow-mul-end c = omega (arith, counted c.args.message.now)
+pub overflow_mul-end : goal.overflow_mul-end
+overflow_mul-end c = omega (arith, counted c.args.message.now)
 
 pub returns-then-at-n : goal.returns-then-at-n
 returns-then-at-n c = byte_in c.args.message.now c.args.at c.requires.0 (omega arith)
@@ -21,4 +21,4 @@ returns-else-at-end c =
     let msg = c.args.message.now in
     let at = c.args.at in
     let end : 64 * c.block_count.result - 4 ≡ 64 * block_count msg - 4 = omega (arith, c.block_count.ensures) in
-    (λ i. get_or (c.to-be-bytes.ensures i) (at - end i) 0) ∙ byte_length msg at c.requires.0 (omega (arith, c.block_count.ensures))
+    (λ i. get_or (c.to_be_bytes.ensures i) (at - end i) 0) ∙ byte_length msg at c.requires.0 (omega (arith, c.block_count.ensures))

@@ -6,21 +6,21 @@ use Rattle.trace.proofs.Cuts.{counted}
 use Rattle.trace.proofs.Bytes.{part_read}
 use Rattle.trace.proofs.blocks.tail_block.Goals as goal
 
-pub overflow-mul-i : goal.overflow-mul-i
-overflow-mul-i c = omega (arith, counted c.args.message.now)
+pub overflow_mul-i : goal.overflow_mul-i
+overflow_mul-i c = omega (arith, counted c.args.message.now)
 
-pub overflow-add-i : goal.overflow-add-i
-overflow-add-i c = omega (arith, counted c.args.message.now)
+pub overflow_add-i : goal.overflow_add-i
+overflow_add-i c = omega (arith, counted c.args.message.now)
 
 pub loop-k-preserved : goal.loop-k-preserved
 loop-k-preserved c =
     let bytes = c.loop-k.bytes in
     let k = c.loop-k.k in
-    let v = c.byte-at.result in (
+    let v = c.byte_at.result in (
       length-set bytes k v ∙ c.loop-k.invariant.0,
       below_more _ _
           (λ q h. let ne : q ≢ k = omega arith in get_or-set_other bytes k q v 0 ne ∙ c.loop-k.invariant.1 q h)
-          (get_or-set_same bytes k v 0 (omega arith) ∙ c.byte-at.ensures),
+          (get_or-set_same bytes k v 0 (omega arith) ∙ c.byte_at.ensures),
     )
 
 pub returns : goal.returns

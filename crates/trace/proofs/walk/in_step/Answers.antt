@@ -6,8 +6,8 @@ use Rattle.trace.proofs.Walked.{before_more, last_more}
 use Rattle.trace.proofs.walk.in_step.Goals as goal
 use Rattle.trace.proofs.walk.in_step.Goals.{then-not-agree, else-not-agree}
 
-pub overflow-add-j : goal.overflow-add-j
-overflow-add-j g c = omega (arith, counted c.args.y.now)
+pub overflow_add-j : goal.overflow_add-j
+overflow_add-j g c = omega (arith, counted c.args.y.now)
 
 pub loop-k-preserved : goal.loop-k-preserved
 loop-k-preserved g c =
@@ -25,9 +25,9 @@ loop-k-preserved g c =
     let y-in : j + k < block_count y = omega arith in
     let x-on : i + k + 1 ≡ i + (k + 1) = omega arith in
     let y-on : j + k + 1 ≡ j + (k + 1) = omega arith in (
-      before_more m x hx c.block-at-bx.result c.forward.new.chain (i + k) x-in x-wide c.loop-k.invariant.0 c.block-at-bx.ensures c.forward.ensures.chain ∙ ap (before m x) x-on,
-      before_more m y hy c.block-at-by.result c.forward-in-loop-k.new.chain (j + k) y-in y-wide c.loop-k.invariant.1 c.block-at-by.ensures c.forward-in-loop-k.ensures.chain ∙ ap (before m y) y-on,
-      last_more m x y i j k hx hy c.block-at-bx.result c.block-at-by.result c.agree.result c.loop-k.last c.if-not-agree.last c.loop-k.invariant.0 c.loop-k.invariant.1
-          c.block-at-bx.ensures c.block-at-by.ensures c.agree.ensures c.loop-k.invariant.2
+      before_more m x hx c.block_at-bx.result c.forward.new.chain (i + k) x-in x-wide c.loop-k.invariant.0 c.block_at-bx.ensures c.forward.ensures.chain ∙ ap (before m x) x-on,
+      before_more m y hy c.block_at-by.result c.forward-in-loop-k.new.chain (j + k) y-in y-wide c.loop-k.invariant.1 c.block_at-by.ensures c.forward-in-loop-k.ensures.chain ∙ ap (before m y) y-on,
+      last_more m x y i j k hx hy c.block_at-bx.result c.block_at-by.result c.agree.result c.loop-k.last c.if-not-agree.last c.loop-k.invariant.0 c.loop-k.invariant.1
+          c.block_at-bx.ensures c.block_at-by.ensures c.agree.ensures c.loop-k.invariant.2
           (elim c.if-not-agree.branch [ then-not-agree w ↦ inl (w.if-not-agree.true, w.last-is) | else-not-agree w ↦ inr (w.if-not-agree.false, w.last-is) ]),
     )

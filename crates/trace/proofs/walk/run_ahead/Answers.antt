@@ -10,4 +10,4 @@ loop-i-preserved g c =
     let m = g.C.Cipher.meaning c.args.cipher.now in
     let law = g.met.C.Cipher.lawful c.args.cipher.now in
     let wide : length c.loop-i.chain ≡ m.width = omega (arith, c.loop-i.auto.chain, ap length c.requires.0, law.starts.long) in
-    before_more m c.args.message.now c.loop-i.chain c.block-at.result c.forward.new.chain c.loop-i.i (omega arith) wide c.loop-i.invariant c.block-at.ensures c.forward.ensures.chain
+    before_more m c.args.message.now c.loop-i.chain c.block_at.result c.forward.new.chain c.loop-i.i (omega arith) wide c.loop-i.invariant c.block_at.ensures c.forward.ensures.chain

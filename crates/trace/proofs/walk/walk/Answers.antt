@@ -3,8 +3,8 @@ use Rattle.std.proofs.lemmas.List.{take_at}
 use Rattle.words.specs.Blocks.{held}
 use Rattle.trace.proofs.walk.walk.Goals as goal
 
-pub walk-from-requires : goal.walk-from-requires
-walk-from-requires g c =
+pub walk_from-requires : goal.walk_from-requires
+walk_from-requires g c =
     let m = g.C.Cipher.meaning c.args.cipher.now in
     let law = g.met.C.Cipher.lawful c.args.cipher.now in
     let n = c.width-n.result - 0 in
