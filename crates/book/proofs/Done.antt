@@ -1,5 +1,5 @@
 -- What a call that is granted or refused has to show. Assumes nothing.
-use Rattle.std.proofs.Common.{◌≡◌, ℕ, ◌≤◌, List, map, length, take, sym, refl, ap, ◌∙◌, arith}
+use Rattle.std.proofs.Common.{◌≡◌, ℕ, ◌≤◌, length, take, sym, refl, ap, ◌∙◌, arith}
 use mathlib.Core.Option.{none, some}
 use Rattle.std.proofs.lemmas.List.{length-map, length-take-le}
 use Rattle.faults.specs.declared.grounds.BookFault.{BookFault}

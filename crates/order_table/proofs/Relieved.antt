@@ -1,10 +1,9 @@
 -- The line that is picked is the longest delay in force. Assumes nothing.
-use Rattle.std.proofs.Common.{◌≡◌, ℕ, zero, suc, ◌+◌, ◌<◌, ◌≤◌, Bool, true, false, cond, not, ◌&&◌, eqb, ltb, leb, ◌⊎◌, List, [], ◌∷◌, Some, None, sym, refl, ap, ◌∙◌, subst, inl, inr, arith}
+use Rattle.std.proofs.Common.{◌≡◌, ℕ, zero, suc, ◌+◌, ◌<◌, ◌≤◌, Bool, true, false, cond, not, ◌&&◌, eqb, ltb, leb, ◌⊎◌, List, [], ◌∷◌, Some, None, refl, ap, ◌∙◌, subst, inl, inr, arith}
 use mathlib.Core.Option.{none, some}
 use Rattle.std.proofs.lemmas.Bool.{false≢true, both_ways, leb-true, ltb-true, ltb-false, and_parts, and_cases}
-use Rattle.std.specs.declared.option.Option as std
 use Rattle.order.specs.Orders.{InRange, delay}
-use Rattle.order_table.specs.Lines.{Line, LinesInRange, line, delays, NoneDelays, Longest, best, pick}
+use Rattle.order_table.specs.Lines.{Line, LinesInRange, line, delays, NoneDelays, Longest, best}
 use Rattle.order_table.specs.Views.{Picks}
 
 -- what the search over the lines from number n on has found

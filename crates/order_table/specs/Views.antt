@@ -1,5 +1,5 @@
 -- What the types of the code stand for. Assumes nothing.
-use Rattle.std.specs.Prelude.{◌≡◌, ℕ, ◌+◌, ◌<◌, ◌≤◌, Bool, true, false, cond, List, [], ◌∷◌, ◌++◌, map, length, take, Some, None, Ok, Err, Option, Result}
+use Rattle.std.specs.Prelude.{◌≡◌, ℕ, ◌+◌, ◌<◌, ◌≤◌, false, cond, List, [], ◌∷◌, ◌++◌, map, length, take, Some, None, Ok, Err, Option, Result}
 use Rattle.std.proofs.Math.Option.{none, some}
 use Rattle.faults.specs.declared.grounds.BookFault.{BookFault}
 use Rattle.faults.specs.declared.grounds.BookFault.TheVariants.{Full}

@@ -1,4 +1,4 @@
-use Rattle.std.proofs.Common.{◌≡◌, length, sym, ap, arith, rules}
+use Rattle.std.proofs.Common.{◌≡◌, sym, arith, rules}
 use Rattle.order_table.proofs.Best.{best_none, best_longer, best_stays}
 use Rattle.order_table.proofs.finding.longest_of.Goals as goal
 

@@ -1,4 +1,4 @@
-use Rattle.std.proofs.Common.{◌≡◌, length, take, sym, refl, ap, ◌∙◌, arith}
+use Rattle.std.proofs.Common.{length, take, refl, ap, ◌∙◌, arith}
 use Rattle.std.proofs.lemmas.Result.{err_from_is_err_and}
 use Rattle.order.specs.Views as orders
 use Rattle.order.proofs.Openings.{in_range}
@@ -10,18 +10,18 @@ use Rattle.book.specs.Told.{told}
 use Rattle.book.proofs.Done.{refuses, grants, told_lines, same_table}
 use Rattle.book.proofs.state.Book.enter.Goals as goal
 
-pub returns-in-err-order : goal.returns-in-err-order
-returns-in-err-order g c =
-    let p = err_from_is_err_and c.from-residual.result c.from-residual.ensures.1 in
-    refuses _ _ _ _ _ _ (order_refused _ _ _ _ _ c.in-err-order.ensures) (rw (p.1, p.2)) refl
+pub returns-in_err-order : goal.returns-in_err-order
+returns-in_err-order g c =
+    let p = err_from_is_err_and c.from_residual.result c.from_residual.ensures.1 in
+    refuses _ _ _ _ _ _ (order_refused _ _ _ _ _ c.in_err-order.ensures) (rw (p.1, p.2)) refl
 
-pub returns-in-err-number : goal.returns-in-err-number
-returns-in-err-number g c =
+pub returns-in_err-number : goal.returns-in_err-number
+returns-in_err-number g c =
     let b = c.args.self.now in
     let m = g.C.Cipher.meaning b.cipher in
-    let p = err_from_is_err_and c.from-residual-in-err-number.result c.from-residual-in-err-number.ensures.1 in
-    let made = c.in-ok-order.ensures in
-    let full = c.in-err-number.ensures in
+    let p = err_from_is_err_and c.from_residual-in_err-number.result c.from_residual-in_err-number.ensures.1 in
+    let made = c.in_ok-order.ensures in
+    let full = c.in_err-number.ensures in
     refuses _ _ _ _ _ _ (full_refused m _ _ _ made.1 made.2 (omega (arith, ap length (told_lines m b), full.1))) (rw (p.1, p.2, full.0)) (same_table b _ full.2)
 
 pub returns : goal.returns
@@ -29,10 +29,10 @@ returns g c =
     let b = c.args.self.now in
     let m = g.C.Cipher.meaning b.cipher in
     let law = g.met.C.Cipher.lawful b.cipher in
-    let made = c.in-ok-order.ensures in
-    let put = c.in-ok-number.ensures in
-    let on = c.turn-on.ensures in
-    let o = c.in-ok-order.order in
+    let made = c.in_ok-order.ensures in
+    let put = c.in_ok-number.ensures in
+    let on = c.turn_on.ensures in
+    let o = c.in_ok-order.order in
     let long = ap length (told_lines m b) in
     let after = enters m law b.name on.named b.base.hour b.timetable.bytes (take m.width b.register) on.row (lines_of b.table) _ (orders.view o) _ (in_range o, tt) put.2 on.turns
     ∙ ap (λ x. change (enter x.letter x.amount) (told m b)) made.0 in

@@ -9,6 +9,6 @@ pub returns : goal.returns
 returns g c =
     let b = c.args.self.now in
     let m = g.C.Cipher.meaning b.cipher in
-    let P : List ℕ → Type 0 = λ ws. Fills (bytes ws) c.args.out.now c.show-seal.new.out c.show-seal.result in
+    let P : List ℕ → Type 0 = λ ws. Fills (bytes ws) c.args.out.now c.show_seal.new.out c.show_seal.result in
     let is = seal_is m b.name b.base.hour b.timetable.bytes (take m.width b.register) (lines_of b.table) _ c.in_force.ensures in
-    record { fills = subst P is c.show-seal.ensures.fills; wide = ap length (sym is) ∙ c.show-seal.ensures.wide }
+    record { fills = subst P is c.show_seal.ensures.fills; wide = ap length (sym is) ∙ c.show_seal.ensures.wide }

@@ -1,4 +1,4 @@
-use Rattle.std.proofs.Common.{◌≡◌, ℕ, List, take, sym, subst, rules}
+use Rattle.std.proofs.Common.{ℕ, List, take, subst}
 use Rattle.words.specs.Words.{Below}
 use Rattle.words.specs.Buffer.{Fills}
 use Rattle.order_table.specs.Views.{lines_of}

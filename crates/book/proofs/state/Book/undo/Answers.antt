@@ -1,4 +1,4 @@
-use Rattle.std.proofs.Common.{◌≡◌, take, sym, refl, ap, ◌∙◌}
+use Rattle.std.proofs.Common.{◌≡◌, take, refl, ap, ◌∙◌}
 use Rattle.std.proofs.lemmas.Result.{err_from_is_err_and}
 use Rattle.order.specs.Views as orders
 use Rattle.order.specs.Views.{listed}
@@ -11,12 +11,12 @@ use Rattle.book.specs.Told.{told}
 use Rattle.book.proofs.Done.{refuses, grants, fits, same_table}
 use Rattle.book.proofs.state.Book.undo.Goals as goal
 
-pub returns-in-err-order : goal.returns-in-err-order
+pub returns-in_err-order : goal.returns-in_err-order
 unfolding tells
-returns-in-err-order g c =
+returns-in_err-order g c =
     let b = c.args.self.now in
-    let p = err_from_is_err_and c.from-residual.result c.from-residual.ensures.1 in
-    let kept = c.in-err-order.ensures in
+    let p = err_from_is_err_and c.from_residual.result c.from_residual.ensures.1 in
+    let kept = c.in_err-order.ensures in
     refuses _ _ _ _ _ _ (undo_ground _ _ _ _ kept.0) (rw (p.1, p.2)) (same_table b _ kept.1)
 
 pub returns : goal.returns
@@ -25,16 +25,16 @@ returns g c =
     let b = c.args.self.now in
     let m = g.C.Cipher.meaning b.cipher in
     let law = g.met.C.Cipher.lawful b.cipher in
-    let did = c.in-ok-order.ensures in
-    let o = orders.view c.in-ok-order.order in
-    let later = listed c.in-ok-order.later in
+    let did = c.in_ok-order.ensures in
+    let o = orders.view c.in_ok-order.order in
+    let later = listed c.in_ok-order.later in
     let r = take m.width b.register in
-    let s = take m.width c.turn-back.new.register in
-    let t = take m.width c.turn-back-2.new.register in
-    let u = take m.width c.turn-on.new.register in
-    let first : s ≡ back m b.name r later = c.turn-back.ensures.turns ∙ ap (back m b.name r) c.as-slice.ensures.value in
-    let last : u ≡ turned m b.name t later = c.turn-on.ensures.turns ∙ ap (turned m b.name t) c.as-slice-2.ensures.value in
-    let after = undoes m law b.name c.turn-back.ensures.named b.base.hour b.timetable.bytes r c.turn-back.ensures.row (lines_of b.table) _ c.args.number o later s t u (fits b) did.1 did.3 first c.turn-back-2.ensures.turns last in
+    let s = take m.width c.turn_back.new.register in
+    let t = take m.width c.turn_back-2.new.register in
+    let u = take m.width c.turn_on.new.register in
+    let first : s ≡ back m b.name r later = c.turn_back.ensures.turns ∙ ap (back m b.name r) c.as_slice.ensures.value in
+    let last : u ≡ turned m b.name t later = c.turn_on.ensures.turns ∙ ap (turned m b.name t) c.as_slice-2.ensures.value in
+    let after = undoes m law b.name c.turn_back.ensures.named b.base.hour b.timetable.bytes r c.turn_back.ensures.row (lines_of b.table) _ c.args.number o later s t u (fits b) did.1 did.3 first c.turn_back-2.ensures.turns last in
     grants _ _ _ _ _ (undo_ground m _ _ _ did.0) refl
     after
     (undo_replies m c.args.number _ (told m b) _ after c.opening.ensures.value)

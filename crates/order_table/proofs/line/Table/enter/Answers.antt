@@ -1,4 +1,4 @@
-use Rattle.std.proofs.Common.{map, take, sym, refl, ap, ◌∙◌, arith}
+use Rattle.std.proofs.Common.{map, take, refl, ap, ◌∙◌, arith}
 use Rattle.std.proofs.lemmas.List.{length-take-le, length-map, take_more_set, map_push}
 use Rattle.order_table.specs.Views.{view}
 use Rattle.order_table.proofs.line.Table.enter.Goals as goal
