@@ -1,4 +1,4 @@
-use Rattle.std.proofs.Common.{◌≡◌, ◌∙◌, arith}
+use Rattle.std.proofs.Common.{◌∙◌, arith}
 use Rattle.std.proofs.lemmas.List.{length-take-le}
 use Rattle.words.specs.Words.{bytes}
 use Rattle.ledger.specs.Ledgers.{register}
@@ -8,12 +8,12 @@ use Rattle.book.specs.Told.{told}
 use Rattle.calls.proofs.Filled.{whole}
 use Rattle.calls.proofs.asking.ask_register.Goals as goal
 
-pub invariant-of-result : goal.invariant-of-result
-invariant-of-result g c =
+pub invariant_of-result : goal.invariant_of-result
+invariant_of-result g c =
     let f = c.in-Ok.ensures.fills in
     let room = c.min-end.ensures in
     let long = length-take-le c.min-end.result c.empty.result.bytes (omega arith) in
-    (whole c.register.new.out c.empty.result.bytes c.min-end.result (omega arith) (omega arith) ∙ c.empty.result.long, (omega (arith, f.1), tt))
+    record { long = whole c.register.new.out c.empty.result.bytes c.min-end.result (omega arith) (omega arith) ∙ c.empty.result.long; few = omega (arith, f.1) }
 
 pub returns-in-Ok : goal.returns-in-Ok
 returns-in-Ok g c =
