@@ -3,7 +3,6 @@ use Rattle.std.proofs.Common.{◌≡◌, ℕ, zero, suc, ◌+◌, ◌<◌, ◌�
 use Rattle.cipher.specs.Meaning.{Meaning}
 use Rattle.timetable.specs.Hours.{ever_open}
 use Rattle.order.specs.Orders.{Order, InRange, lettered, ranged}
-use Rattle.order_table.specs.Lines.{Line}
 use Rattle.sheet.specs.Reading.{order_at, orders_from}
 use Rattle.sheet.proofs.Laws.{length_orders}
 use Rattle.ledger.specs.Ledgers.{Given, Ledger, blank}
@@ -64,9 +63,9 @@ pub by_first : {C : Type 0} (meaning : C → Meaning) (first : C) (call : Call) 
 by_first meaning first call old new a e did = subst (λ c. told (meaning c) new ≡ after (meaning c) call (told (meaning c) old)) e did.ledger
 
 -- a new book that is set up from a faultless sheet
-pub opened : {C : Type 0} (meaning : C → Meaning) (cipher : C) (blank-book new : Book C) (g : Given) (a : Answer) → blank-book.cipher ≡ cipher → told (meaning cipher) blank-book ≡ blank (meaning cipher) → Does meaning (set_up g) blank-book new a
+pub opened : {C : Type 0} (meaning : C → Meaning) (cipher : C) (blank_book new : Book C) (g : Given) (a : Answer) → blank_book.cipher ≡ cipher → told (meaning cipher) blank_book ≡ blank (meaning cipher) → Does meaning (set_up g) blank_book new a
     → length g.start ≡ (meaning cipher).width → g.base ≤ 1000000 → ever_open g.table ≡ true → (new.cipher ≡ cipher) × (told (meaning new.cipher) new ≡ record { given = g; lines = [] })
-opened meaning cipher blank-book new g a same is did wide based opens =
+opened meaning cipher blank_book new g a same is did wide based opens =
     let one = did.same ∙ same in
-    let e = by_first meaning cipher (set_up g) blank-book new a same did ∙ ap (after (meaning cipher) (set_up g)) is in
+    let e = by_first meaning cipher (set_up g) blank_book new a same did ∙ ap (after (meaning cipher) (set_up g)) is in
     (one, subst (λ c. told (meaning c) new ≡ record { given = g; lines = [] }) (sym one) (sets_blank (meaning cipher) (told (meaning cipher) new) g wide based opens e))

@@ -1,11 +1,9 @@
-use Rattle.std.proofs.Common.{◌≡◌, ◌+◌, ◌<◌, ◌≤◌, false, ltb, sym, refl, ap, ◌∙◌, subst, arith, rules}
+use Rattle.std.proofs.Common.{◌≡◌, ◌<◌, ◌≤◌, false, ltb, sym, refl, ap, ◌∙◌, arith, rules}
 use Rattle.std.proofs.lemmas.Bool.{ltb-false}
 use Rattle.order.specs.Views.{view}
 use Rattle.order.proofs.Openings.{in_range}
 use Rattle.sheet.specs.Reading.{count, orders_from}
 use Rattle.sheet.proofs.Faultless.{none_fault}
-use Rattle.ledger.specs.Ledgers.{Ledger}
-use Rattle.ledger.specs.Calls.{enter, after}
 use Rattle.book.specs.Told.{told}
 use Rattle.loading.specs.Loaded.{entered}
 use Rattle.loading.proofs.Entered.{entered_none, enters_next, by_first}
@@ -17,8 +15,8 @@ loop-order-init g c =
     let m = g.C.Cipher.meaning b.cipher in
     (refl, (λ j. record { given = (told m b).given; lines = (c.requires.1 ∙ entered_none c.args.reader.now.bytes.now) j }), omega arith)
 
-pub overflow-add-i : goal.overflow-add-i
-overflow-add-i g c =
+pub overflow_add-i : goal.overflow_add-i
+overflow_add-i g c =
     let bs = c.args.reader.now.bytes.now in
     let near : c.loop-order.i < 64 = omega (arith, c.in-Some.ensures.value.0, (none_fault bs c.requires.0).0.few) in
     search rules
@@ -42,7 +40,7 @@ pub returns : goal.returns
 returns g c =
     let bs = c.args.reader.now.bytes.now in
     let inv = c.loop-order.invariant in
-    let none_left : ltb c.loop-order.i (count bs) ≡ false = sym (c.in-default.ensures.read c.requires.0) in
+    let none_left : ltb c.loop-order.i (count bs) ≡ false = sym (c.in_default.ensures.read c.requires.0) in
     let past : count bs ≤ c.loop-order.i = ltb-false c.loop-order.i (count bs) none_left in
     let all : c.loop-order.i ≡ count bs = omega (arith, inv.2) in
     record { same = inv.0; after = inv.1 ∙ ap (λ n. record { given = (told (g.C.Cipher.meaning c.args.book.now.cipher) c.args.book.now).given; lines = entered (orders_from bs 0 n) }) all }

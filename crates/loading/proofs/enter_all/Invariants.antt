@@ -7,7 +7,7 @@ use Rattle.loading.proofs.enter_all.Given as goal
 abbrev pub invariant-loop-order : goal.invariant-loop-order
 invariant-loop-order g l =
     (l.book.cipher ≡ l.initial.book.cipher)
-    × (told (g.C.Cipher.meaning l.initial.book.cipher) l.book ≡ record { goal = (told (g.C.Cipher.meaning l.initial.book.cipher) l.initial.book).given; lines = entered (orders_from l.reader.bytes.now 0 l.i) })
+    × (told (g.C.Cipher.meaning l.initial.book.cipher) l.book ≡ record { given = (told (g.C.Cipher.meaning l.initial.book.cipher) l.initial.book).given; lines = entered (orders_from l.reader.bytes.now 0 l.i) })
     × (l.i ≤ count l.reader.bytes.now)
 
 abbrev pub decreases-loop-order : goal.decreases-loop-order
