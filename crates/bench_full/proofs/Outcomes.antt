@@ -1,5 +1,5 @@
 -- What the bench finds, check by check. Assumes nothing.
-use Rattle.std.proofs.Common.{◌≡◌, ℕ, ◌-◌, ◌*◌, ◌<◌, ◌≤◌, true, false, cond, ltb, List, [], ◌∷◌, length, get_or, take, drop, Err, Result, sym, refl, ap, ◌∙◌, subst, arith}
+use Rattle.std.proofs.Common.{◌≡◌, ℕ, ◌-◌, ◌*◌, ◌<◌, ◌≤◌, cond, List, [], ◌∷◌, length, get_or, take, drop, Err, Result, refl, ap, ◌∙◌, subst, arith}
 use mathlib.Core.Option.{Option, none, some}
 use Rattle.std.proofs.lemmas.List.{length-take-le, take_rest}
 use Rattle.std.proofs.lemmas.Bool.{lt-ltb, le-ltb}
@@ -12,7 +12,7 @@ use Rattle.cipher.specs.Meaning.{Meaning}
 use Rattle.sheet.specs.Reading.{sheet_fault}
 use Rattle.book.specs.declared.state.Book.{Book}
 use Rattle.loading.specs.Loaded.{loaded, Loads}
-use Rattle.bench_full.specs.Bench.{Outcome, shows, fails, shown, read_sheet, over, marked, outcome}
+use Rattle.bench_full.specs.Bench.{Outcome, fails, shown, read_sheet, over, marked, outcome}
 
 pub no_input : (input : List ℕ) → length input < 1 → outcome input ≡ fails Mark
 unfolding outcome

@@ -20,8 +20,8 @@ returns-then-n-lt10 t c =
       ends = c.push.ensures.ends ∙ ap (λ (ds : List ℕ). c.args.at + length ds) (sym e);
     }
 
-pub push-digits-end-requires : goal.push-digits-end-requires
-push-digits-end-requires t c = (omega arith, omega (arith, longer c.args.n c.if-n-lt10.false c.ranges.n.fits))
+pub push_digits-end-requires : goal.push_digits-end-requires
+push_digits-end-requires t c = (omega arith, omega (arith, longer c.args.n c.if-n-lt10.false c.ranges.n.fits))
 
 pub push-requires-2 : goal.push-requires-2
 push-requires-2 t c = omega (arith, longer c.args.n c.if-n-lt10.false c.ranges.n.fits)
@@ -33,7 +33,7 @@ returns t c =
     let e = decimal_step n c.if-n-lt10.false c.ranges.n.fits in
     record {
       after = c.push-2.ensures.after
-          ∙ ap (λ (x : List ℕ). x ++ (48 + n % 10) ∷ []) c.push-digits-end.ensures.after
+          ∙ ap (λ (x : List ℕ). x ++ (48 + n % 10) ∷ []) c.push_digits-end.ensures.after
           ∙ append_assoc front (decimal (n / 10)) ((48 + n % 10) ∷ [])
           ∙ ap (λ (ds : List ℕ). front ++ ds) (sym e);
       ends = omega (arith, longer n c.if-n-lt10.false c.ranges.n.fits);

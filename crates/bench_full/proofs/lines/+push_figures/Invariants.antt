@@ -1,4 +1,4 @@
 use Rattle.bench_full.proofs.lines.+push_figures.Given as goal
 
-abbrev pub decreases-push-figures : goal.decreases-push-figures
-decreases-push-figures l = l.figures
+abbrev pub decreases-push_figures : goal.decreases-push_figures
+decreases-push_figures l = l.figures

@@ -1,4 +1,4 @@
-use Rattle.std.proofs.Common.{◌≡◌, arith}
+use Rattle.std.proofs.Common.{arith}
 use Rattle.words.proofs.Crossed.{length_bytes}
 use Rattle.ledger.specs.Ledgers.{seal}
 use Rattle.book.specs.Told.{told}
@@ -11,7 +11,7 @@ unreachable-requires g c =
     let b = c.args.book.now in
     let m = g.C.Cipher.meaning b.cipher in
     let law = g.met.C.Cipher.lawful b.cipher in
-    omega (arith, law.most, c.in-default.ensures.fills.1, c.in-default.ensures.wide, length_bytes (seal m (told m b)))
+    omega (arith, law.most, c.in_default.ensures.fills.1, c.in_default.ensures.wide, length_bytes (seal m (told m b)))
 
 pub returns : goal.returns
 returns g c =

@@ -14,12 +14,12 @@ unfolding bench
 returns c =
     let n = c.match-answer.n in
     let line : take n c.match-answer.line ≡ bench c.args.input.now = elim c.match-answer.branch [
-      | in-Ok w ↦ at_front _ _ _ _ w.n-is w.line_is w.put-findings-n.ensures.after ∙ ap printed (sym w.in-Ok.ensures)
-      | in-Err w ↦ at_front _ _ _ _ w.n-is w.line_is w.put-refusal-n.ensures.after ∙ ap refusal_line w.refusal.ensures ∙ ap printed (sym w.in-Err.ensures)
+      | in-Ok w ↦ at_front _ _ _ _ w.n-is w.line-is w.put_findings-n.ensures.after ∙ ap printed (sym w.in-Ok.ensures)
+      | in-Err w ↦ at_front _ _ _ _ w.n-is w.line-is w.put_refusal-n.ensures.after ∙ ap refusal_line w.refusal.ensures ∙ ap printed (sym w.in-Err.ensures)
     ] in
     let bound : n ≤ 128 = elim c.match-answer.branch [
-      | in-Ok w ↦ omega (arith, w.n-is, w.put-findings-n.ensures.bound)
-      | in-Err w ↦ omega (arith, w.n-is, w.put-refusal-n.ensures.bound)
+      | in-Ok w ↦ omega (arith, w.n-is, w.put_findings-n.ensures.bound)
+      | in-Err w ↦ omega (arith, w.n-is, w.put_refusal-n.ensures.bound)
     ] in
     let zero : n - 0 ≡ n = omega arith in
     let part : take (n - 0) c.match-answer.line ≡ bench c.args.input.now = ap (λ (k : ℕ). take k c.match-answer.line) zero ∙ line in
