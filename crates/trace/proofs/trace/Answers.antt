@@ -5,7 +5,7 @@ use Rattle.trace.proofs.trace.Goals as goal
 use Rattle.std.proofs.lemmas.Bool.Decides.{Decides-eqb}
 
 pub returns-then-eq : goal.returns-then-eq
-returns-then-eq g c = let d = slice_eq-Decides Decides-eqb _ _ _ c.eq.ensures in search rules
+returns-then-eq g c = let d = slice_eq-Decides Decides-eqb c.args.x.now c.args.y.now _ c.eq.ensures in search rules
 
 pub walk-requires : goal.walk-requires
-walk-requires g c = let d = slice_eq-Decides Decides-eqb _ _ _ c.eq.ensures in search (rules, not_so)
+walk-requires g c = let d = slice_eq-Decides Decides-eqb c.args.x.now c.args.y.now _ c.eq.ensures in search (rules, not_so)
