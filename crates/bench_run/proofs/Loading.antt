@@ -1,5 +1,5 @@
 -- Orders loaded from a sheet one after the other. Assumes nothing.
-use Rattle.std.proofs.Common.{◌≡◌, ℕ, zero, suc, ◌+◌, List, [], ◌∷◌, ◌++◌, refl, ap, ◌∙◌, arith}
+use Rattle.std.proofs.Common.{◌≡◌, ℕ, zero, suc, ◌+◌, List, [], ◌∷◌, ◌++◌, ap, ◌∙◌, arith}
 use Rattle.sheet.specs.Reading.{order_at, orders_from}
 
 orders_push_from : (bs : List ℕ) (j i : ℕ) → orders_from bs j (i + 1) ≡ orders_from bs j i ++ order_at bs (j + i) ∷ []

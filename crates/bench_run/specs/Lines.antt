@@ -1,5 +1,5 @@
 -- The lines that the bench prints. Assumes nothing.
-use Rattle.std.specs.Prelude.{ℕ, List, [], ◌∷◌, ◌++◌, codes, decimal}
+use Rattle.std.specs.Prelude.{ℕ, List, ◌++◌, codes, decimal}
 use Rattle.faults.specs.Refusals.{label}
 use Rattle.faults.specs.declared.layer.Refusal.{Refusal}
 

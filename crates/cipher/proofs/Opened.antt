@@ -1,7 +1,7 @@
 -- Keys and blocks of bytes as words. Assumes nothing.
-use Rattle.std.proofs.Common.{◌≡◌, ℕ, ◌+◌, ◌-◌, ◌*◌, ◌<◌, ◌≤◌, Bool, true, false, cond, ◌&&◌, eqb, leb, List, ◌++◌, length, take, drop, replicate, Ok, Err, Result, sym, refl, ap, ◌∙◌, arith, eq-eqb}
+use Rattle.std.proofs.Common.{◌≡◌, ℕ, ◌+◌, ◌-◌, ◌*◌, ◌≤◌, Bool, true, false, cond, eqb, leb, List, ◌++◌, length, take, replicate, Ok, Err, Result, sym, refl, ap, ◌∙◌, arith, eq-eqb}
 use Rattle.std.proofs.lemmas.Bool.{and_from, le-leb, eqb-true}
-use Rattle.std.proofs.lemmas.List.{length-append, length-replicate, length-take-le, take_at}
+use Rattle.std.proofs.lemmas.List.{length-append, length-replicate, take_at}
 use Rattle.faults.specs.declared.grounds.CipherFault.{CipherFault}
 use Rattle.faults.specs.declared.grounds.CipherFault.TheVariants.{Key, Block}
 use Rattle.words.specs.Words.{bytes, words}

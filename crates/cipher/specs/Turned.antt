@@ -1,7 +1,7 @@
 -- What a call answers and leaves in the block, where a block of another size is refused. Assumes nothing.
-use Rattle.std.specs.Prelude.{ℕ, Bool, cond, List, length, Ok, Err, Result, ◌==◌}
+use Rattle.std.specs.Prelude.{ℕ, cond, List, length, Ok, Err, Result, ◌==◌}
 use Rattle.faults.specs.declared.grounds.CipherFault.{CipherFault}
-use Rattle.faults.specs.declared.grounds.CipherFault.TheVariants.{Key, Block}
+use Rattle.faults.specs.declared.grounds.CipherFault.TheVariants.{Block}
 
 abbrev pub Answer : Type 0
 Answer = Result (Unit {0}) CipherFault

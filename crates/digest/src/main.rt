@@ -12,6 +12,7 @@ use shacal1::Shacal1;
 use shacal2::Shacal2;
 use std::env;
 use std::io::{Read, Write};
+use std::process::ExitCode;
 use words::Block;
 
 // How many bytes are read at once.
@@ -71,10 +72,13 @@ fn run(rt: &HostRuntime) -> anyhow::Result<()> {
     Ok(())
 }
 
-fn main(rt: HostRuntime) -> anyhow::Result<()> {
-    let ended = run(&rt);
-    if let Err(fault) = &ended {
-        eprintln!(rt; "digest: {fault}")?;
+// An error that `main` handed out would be printed a second time.
+fn main(rt: HostRuntime) -> ExitCode {
+    match run(&rt) {
+        Ok(()) => ExitCode::SUCCESS,
+        Err(fault) => {
+            let _ = eprintln!(rt; "digest: {fault}");
+            ExitCode::FAILURE
+        }
     }
-    ended
 }

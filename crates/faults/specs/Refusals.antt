@@ -1,6 +1,5 @@
 -- The number, the layer and the place of every fault. Assumes nothing.
 use Rattle.std.specs.Prelude.{List, ℕ, codes}
-use Rattle.faults.specs.declared.layer.Layer as layers
 use Rattle.faults.specs.declared.layer.Layer.{Layer}
 use Rattle.faults.specs.declared.layer.Layer.TheVariants as layer
 use Rattle.faults.specs.declared.layer.Refusal.{Refusal}

@@ -1,8 +1,8 @@
 -- The end of a message: mark, length, and the last block or two. Assumes nothing.
-use Rattle.std.proofs.Common.{◌≡◌, ℕ, suc, ◌+◌, ◌-◌, ◌*◌, ◌/◌, ◌%◌, ◌^◌, ◌<◌, ◌≤◌, List, [], ◌∷◌, ◌++◌, length, take, drop, set, replicate, sym, refl, ap, ◌∙◌, append_assoc, append-nil, add-one, arith, length-append}
+use Rattle.std.proofs.Common.{◌≡◌, ℕ, ◌+◌, ◌-◌, ◌*◌, ◌/◌, ◌%◌, ◌^◌, ◌<◌, ◌≤◌, List, [], ◌∷◌, ◌++◌, length, take, drop, set, replicate, sym, ap, ◌∙◌, append_assoc, append-nil, add-one, arith, length-append}
 use lib.ListN.{length-replicate}
 use borrow.Rule.Slice.PartMut.{put_mid}
-use Rattle.std.proofs.lemmas.List.{set_split, length-take-le, length_push, take-append-drop, drop_all, take_at, take-append-le, replicate-append-replicate, take_all}
+use Rattle.std.proofs.lemmas.List.{set_split, length-take-le, length_push, take-append-drop, drop_all, take_at, replicate-append-replicate}
 use Rattle.words.specs.Words.{words, word_bytes}
 use Rattle.words.proofs.Puts.{put_next}
 use Rattle.cipher.specs.Meaning.{Meaning}

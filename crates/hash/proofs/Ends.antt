@@ -1,7 +1,7 @@
 -- The steps of a program that adds bytes, and the end of a message. Assumes nothing.
-use Rattle.std.proofs.Common.{◌≡◌, ℕ, ◌+◌, ◌-◌, ◌*◌, ◌/◌, ◌%◌, ◌^◌, ◌<◌, ◌≤◌, List, [], ◌∷◌, ◌++◌, length, take, drop, replicate, sym, refl, ap, ◌∙◌, subst, append_assoc, arith, length-append, length-drop, take-append-drop, length-take, drop-drop, take-add}
+use Rattle.std.proofs.Common.{◌≡◌, ℕ, ◌+◌, ◌-◌, ◌*◌, ◌/◌, ◌<◌, ◌≤◌, List, [], ◌∷◌, ◌++◌, length, take, drop, replicate, sym, refl, ap, ◌∙◌, subst, append_assoc, arith, length-append, length-drop, take-append-drop, length-take, drop-drop, take-add}
 use lib.ListN.{length-replicate, replicate-append-replicate}
-use Rattle.words.specs.Words.{words, word_bytes}
+use Rattle.words.specs.Words.{words}
 use Rattle.cipher.specs.Meaning.{Meaning}
 use Rattle.hash.specs.Digests.{forward, field, mark, zeros, padded, cut, chain, digest, Stands}
 use Rattle.hash.proofs.Growing.{cut_bytes, cut_one, tail_short, tail_counts, more, full}

@@ -1,5 +1,5 @@
 -- Bytes added to an open message, and its end. Assumes nothing.
-use Rattle.std.proofs.Common.{◌≡◌, ℕ, zero, suc, ◌+◌, ◌-◌, ◌*◌, ◌/◌, ◌%◌, ◌^◌, ◌<◌, ◌≤◌, List, [], ◌∷◌, ◌++◌, length, take, drop, sym, refl, ap, ◌∙◌, subst, append_assoc, append-nil, add-zero, suc-add, zero-add, arith, length-append, length-drop, take-append-drop, drop_of_length-le, length-take, take_all}
+use Rattle.std.proofs.Common.{◌≡◌, ℕ, zero, suc, ◌+◌, ◌-◌, ◌*◌, ◌/◌, ◌%◌, ◌<◌, ◌≤◌, List, [], ◌∷◌, ◌++◌, length, take, drop, sym, refl, ap, ◌∙◌, subst, append_assoc, append-nil, add-zero, suc-add, zero-add, arith, length-append, length-drop, take-append-drop, drop_of_length-le, length-take, take_all}
 use lib.Seq.{take-append-le, drop-append-le, drop-append-add}
 use Rattle.words.specs.Words.{words}
 use Rattle.cipher.specs.Meaning.{Meaning}

@@ -1,5 +1,5 @@
 -- Facts on padding, blocks and the chain over them. Assumes nothing.
-use Rattle.std.proofs.Common.{◌≡◌, ℕ, zero, suc, ◌+◌, ◌-◌, ◌*◌, ◌/◌, ◌%◌, ◌^◌, ◌<◌, ◌≤◌, List, [], ◌∷◌, ◌++◌, length, get_or, take, drop, replicate, sym, refl, ap, ◌∙◌, append_assoc, le_of_suc-le-suc, arith, lit<, length-append, length-drop, length-take, drop-drop}
+use Rattle.std.proofs.Common.{◌≡◌, ℕ, zero, suc, ◌+◌, ◌-◌, ◌*◌, ◌/◌, ◌%◌, ◌^◌, ◌<◌, List, [], ◌∷◌, ◌++◌, length, get_or, take, drop, sym, refl, ap, ◌∙◌, le_of_suc-le-suc, arith, lit<, length-append, length-drop, length-take, drop-drop}
 use lib.ListN.{length-replicate}
 use Rattle.words.specs.Words.{Below, Row, word_bytes, words}
 use Rattle.words.specs.Steps.{added}

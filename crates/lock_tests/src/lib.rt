@@ -101,7 +101,7 @@ mod tests {
                 return Err(Fail::new("not read back"));
             };
             assert_eq!(rt; reader.count(), count);
-            assert_eq!(rt; reader.name(), b"SAFE0001");
+            assert_eq!(rt; reader.name(), b"SAFE0001".as_slice());
             assert!(rt; reader.order(count).is_none());
         }
         Ok(())

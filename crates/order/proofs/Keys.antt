@@ -1,5 +1,5 @@
 -- The key of an order, byte by byte and word by word. Assumes nothing.
-use Rattle.std.proofs.Common.{◌≡◌, ℕ, ◌+◌, ◌*◌, ◌^◌, ◌<◌, List, [], ◌∷◌, ◌++◌, length, get_or, replicate, sym, refl, ap, ◌∙◌, arith}
+use Rattle.std.proofs.Common.{◌≡◌, ℕ, ◌+◌, ◌*◌, ◌^◌, ◌<◌, List, [], ◌∷◌, length, get_or, replicate, sym, refl, ap, ◌∙◌, arith}
 use Rattle.words.specs.Words.{word_bytes}
 use Rattle.words.proofs.Bytes.{word_joined}
 use Rattle.order.specs.Orders.{Order, key_bytes, key}

@@ -1,7 +1,6 @@
 -- Orders behind one another. Assumes nothing.
 use Rattle.std.proofs.Common.{◌≡◌, ℕ, ◌+◌, ◌<◌, ◌≤◌, List, [], ◌∷◌, ◌++◌, map, length, take, set, Ok, Err, Result, ap, ◌∙◌, arith}
 use Rattle.std.proofs.lemmas.List.{length-map, length-take-le, take_more_set, map_push}
-use Rattle.order.specs.Orders as orders
 use Rattle.order.specs.Views.{view, listed, Pushed}
 use Rattle.order.specs.declared.kind.Order.{Order}
 use Rattle.order.specs.declared.kind.Orders.{Orders}

@@ -1,5 +1,5 @@
 -- The laws of the practice cipher. Assumes nothing.
-use Rattle.std.specs.Prelude.{◌≡◌, refl, List, [], ◌∷◌, ℕ, ◌^◌, ◌%◌, ◌<◌, length, set}
+use Rattle.std.specs.Prelude.{◌≡◌, refl, List, [], ◌∷◌, ℕ, ◌^◌, ◌<◌, length, set}
 use Rattle.std.proofs.Common.{arith}
 use Rattle.words.specs.Words.{Row}
 use Rattle.words.specs.Steps.{at}

@@ -8,7 +8,7 @@ use Rattle.words.specs.Words.{Below, Row, words}
 use Rattle.cipher.specs.Meaning.{Meaning, Lawful}
 use Rattle.hash.specs.Digests.{forward, chain, cut, digest, padded, block_count, blocks}
 use Rattle.words.specs.Steps.{at}
-use Rattle.hash.specs.Messages.{Hashes}
+use Rattle.hash.specs.Messages.{Hashes, Measured}
 use Rattle.sha.specs.Answers.{Sums}
 use Rattle.sha.specs.Standards.{pad, M, H}
 use Rattle.words.proofs.Bytes.{length_words, words_below}
@@ -55,6 +55,6 @@ module _ (m : Meaning) (lawful : Lawful m) (V : Type 0) (row : V → List ℕ) (
 
 -- what a call answers over a cipher that agrees with a standard
 pub sums : (m : Meaning) (standard : List ℕ → List ℕ) → ((msg : List ℕ) → Below (2 ^ 8) msg → digest m msg ≡ standard msg)
-    → (parts : List (Bor (List ℕ))) (r : Result Block MessageFault) → Hashes m parts r → Sums standard parts r
-sums m standard agrees parts (Ok d) h = (h.0, h.1 ∙ agrees (flat_map (λ x. x.now) parts) h.2)
-sums m standard agrees parts (Err f) h = h
+    → (parts : List (Bor (List ℕ))) (r : Result Block MessageFault) → Hashes m parts r → Measured m parts r → Sums standard parts r
+sums m standard agrees parts (Ok d) h bytes = (h.0, h.1 ∙ agrees (flat_map (λ x. x.now) parts) bytes.0)
+sums m standard agrees parts (Err f) h bytes = h

@@ -1,10 +1,10 @@
 -- The steps, cut where the phases and the sixteens of the schedule meet. Assumes nothing.
-use Rattle.std.proofs.Common.{◌≡◌, ℕ, ◌+◌, ◌*◌, ◌/◌, ◌<◌, ◌≤◌, List, [], ◌∷◌, ◌++◌, length, take, drop, set, sym, refl, ap, ◌∙◌, arith}
+use Rattle.std.proofs.Common.{◌≡◌, ℕ, ◌+◌, ◌*◌, ◌/◌, ◌≤◌, List, [], ◌∷◌, ◌++◌, length, take, drop, set, sym, refl, ap, ◌∙◌, arith}
 use Rattle.std.proofs.lemmas.List.{take-append-drop, take_all, length-take-le, length-drop}
 use Rattle.words.specs.Steps.{choose, parity, majority, forth, undo, next}
 use Rattle.words.proofs.Undone.{forth_append, undo_append}
 use Rattle.words.proofs.Schedule.{length_next}
-use Rattle.shacal1.specs.Shacal1.{fresh, mix, constant, turn, unturn, step, unstep, run, back, Enc, Dec, words}
+use Rattle.shacal1.specs.Shacal1.{fresh, mix, constant, turn, unturn, step, unstep, run, back, Enc, Dec}
 use Rattle.shacal1.specs.Phases.{phase, unphase}
 use Rattle.shacal1.proofs.Schedule.{words_all}
 

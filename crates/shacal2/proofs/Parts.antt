@@ -1,10 +1,10 @@
 -- The steps, cut where the sixteens of the schedule meet and once more in the middle. Assumes nothing.
-use Rattle.std.proofs.Common.{◌≡◌, ℕ, suc, ◌+◌, ◌<◌, ◌≤◌, List, [], ◌∷◌, ◌++◌, length, take, drop, set, sym, refl, ap, ◌∙◌, arith}
+use Rattle.std.proofs.Common.{◌≡◌, ℕ, suc, ◌+◌, ◌≤◌, List, [], ◌∷◌, ◌++◌, length, take, drop, set, sym, refl, ap, ◌∙◌, arith}
 use Rattle.std.proofs.lemmas.List.{take-append-drop, take_all, length-take-le, length-drop, drop_more}
 use Rattle.words.specs.Steps.{at, forth, undo, next}
 use Rattle.words.proofs.Undone.{forth_append, undo_append}
 use Rattle.words.proofs.Schedule.{length_next}
-use Rattle.shacal2.specs.Shacal2.{fresh, constants, turn, unturn, step, unstep, run, back, Enc, Dec, words}
+use Rattle.shacal2.specs.Shacal2.{fresh, constants, turn, unturn, step, unstep, run, back, Enc, Dec}
 use Rattle.shacal2.specs.Phases.{phase, unphase}
 use Rattle.shacal2.proofs.Window.{words_all, Renewed, renewed_next}
 

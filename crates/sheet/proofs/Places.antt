@@ -1,5 +1,5 @@
 -- Halves and words at their places. Assumes nothing.
-use Rattle.std.proofs.Common.{◌≡◌, ℕ, zero, suc, ◌+◌, ◌*◌, ◌/◌, ◌%◌, ◌^◌, ◌<◌, ◌≤◌, List, [], ◌∷◌, ◌++◌, length, get_or, drop, sym, ap, ◌∙◌, add_assoc, arith, lit<, get_or-append-add}
+use Rattle.std.proofs.Common.{◌≡◌, ℕ, ◌+◌, ◌*◌, ◌/◌, ◌%◌, ◌^◌, ◌<◌, ◌≤◌, List, [], ◌∷◌, ◌++◌, length, get_or, drop, sym, ap, ◌∙◌, add_assoc, arith, lit<, get_or-append-add}
 use Rattle.std.proofs.lemmas.List.{drop_more}
 use Rattle.words.specs.Words.{Below, word_bytes}
 use Rattle.sheet.specs.Sheets.{half_bytes}

@@ -10,7 +10,7 @@ use Rattle.sheet.specs.Sheets.{letters, amounts, head, sheet}
 use Rattle.sheet.specs.Contents.{Contents, Holds, Accepted}
 use Rattle.sheet.specs.Reading.{word, count, total, order_at, orders_from, orders}
 use Rattle.sheet.proofs.Places.{half_read, word_read, word_skip}
-use Rattle.sheet.proofs.Faultless.{Sized, SetUp, fault_none}
+use Rattle.sheet.proofs.Faultless.{Sized, fault_none}
 
 pub length_letters : (os : List Order) → length (letters os) ≡ length os
 length_letters [] = refl

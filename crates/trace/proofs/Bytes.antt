@@ -5,7 +5,7 @@ use Rattle.std.proofs.lemmas.Bool.{cond-true, eq-eqb}
 use Rattle.std.proofs.lemmas.List.{get_or_append_left, get_or-append_right, get_or_at, get_or-replicate, get_or-take, get_or-drop, ext_get_or, take_at, drop_at, take-append-le, drop-append-le, replicate-append-replicate}
 use Rattle.words.specs.Words.{word_bytes, words}
 use Rattle.words.proofs.Bytes.{length_words, words_append}
-use Rattle.hash.specs.Digests.{field, mark, zeros, padded, cut, block_count, blocks}
+use Rattle.hash.specs.Digests.{field, mark, zeros, padded, cut, block_count}
 use Rattle.hash.specs.Messages.{limit}
 use Rattle.trace.specs.Walk.{block}
 use Rattle.hash.proofs.Rows.{getD_cut, front, padded_whole, length_front}

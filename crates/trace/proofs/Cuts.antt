@@ -1,9 +1,8 @@
 -- How many blocks a message has, what the last one holds, and that blocks tell messages apart. Assumes nothing.
-use Rattle.std.proofs.Common.{◌≡◌, ℕ, zero, suc, ◌+◌, ◌-◌, ◌*◌, ◌/◌, ◌%◌, ◌^◌, ◌<◌, ◌≤◌, List, [], ◌∷◌, ◌++◌, length, get_or, take, drop, sym, refl, ap, ◌∙◌, le_of_suc-le-suc, arith, lit<, length-append, length-drop, take-append-drop, get_or-drop, get_or-take, drop-drop, get_or-append-add}
+use Rattle.std.proofs.Common.{◌≡◌, ℕ, zero, suc, ◌+◌, ◌-◌, ◌*◌, ◌/◌, ◌%◌, ◌^◌, ◌<◌, ◌≤◌, List, [], ◌∷◌, ◌++◌, length, get_or, drop, sym, refl, ap, ◌∙◌, arith, lit<, length-drop, take-append-drop, get_or-drop, get_or-take, get_or-append-add}
 use mathlib.Core.List.{head-eq_of_cons-eq, tail-eq_of_cons-eq}
-use lib.ListN.{length-replicate}
-use Rattle.words.specs.Words.{Below, word_bytes, words}
-use Rattle.words.proofs.Bytes.{below_append, below_replicate, word_bytes_below, word_joined, length_words, words_append, words_inj, append_split}
+use Rattle.words.specs.Words.{Below, words}
+use Rattle.words.proofs.Bytes.{word_joined, length_words, words_append, words_inj, append_split}
 use Rattle.hash.specs.Digests.{field, padded, cut, block_count, blocks}
 use Rattle.hash.proofs.Rows.{length_cut, getD_cut, front, length_front, length_padded, padded_whole, padded_below}
 

@@ -1,5 +1,5 @@
 -- Chains along two messages, and the place where a walk back from both ends stops. Assumes nothing.
-use Rattle.std.proofs.Common.{◌≡◌, ℕ, zero, suc, ◌+◌, ◌-◌, ◌^◌, ◌<◌, Bool, true, false, ◌⊎◌, List, [], ◌∷◌, length, get_or, take, Some, None, Decides, Option, sym, refl, ap, ◌∙◌, subst, inl, inr, le_of_suc-le-suc, add-one, arith, ext_get_or}
+use Rattle.std.proofs.Common.{◌≡◌, ℕ, ◌+◌, ◌-◌, ◌^◌, ◌<◌, Bool, true, false, ◌⊎◌, List, [], length, Some, None, Decides, Option, sym, ap, ◌∙◌, subst, inl, inr, add-one, arith, ext_get_or}
 use lib.Seq.{take-length}
 use Rattle.std.proofs.lemmas.Bool.{cases_order}
 use Rattle.words.specs.Words.{Below}

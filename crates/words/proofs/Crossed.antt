@@ -1,7 +1,7 @@
 -- Words read one by one, and written one by one. Assumes nothing.
 use Rattle.std.proofs.Common.{◌≡◌, ℕ, zero, suc, ◌+◌, ◌-◌, ◌*◌, ◌^◌, ◌<◌, ◌≤◌, List, [], ◌∷◌, ◌++◌, length, get_or, take, drop, set, Ok, Err, Result, sym, refl, ap, ◌∙◌, arith}
 use borrow.Rule.Slice.PartMut.{put_mid, post_of, Post-is}
-use Rattle.std.proofs.lemmas.List.{append_assoc, append-nil, length-append, length-drop, take_more, take_all, take_at, drop-drop, drop-append-le, drop_at, take-append-le, take_more_same, length-take-le, get_or-set_same, take-set, length-set, drop_all}
+use Rattle.std.proofs.lemmas.List.{append_assoc, append-nil, take_more, take_all, take_at, drop-drop, drop_at, take_more_same, length-take-le, get_or-set_same, take-set, length-set, drop_all}
 use Rattle.faults.specs.declared.grounds.BufferFault.{BufferFault}
 use Rattle.words.specs.Buffer.{Fills}
 use Rattle.words.specs.Words.{word_bytes, bytes, words}

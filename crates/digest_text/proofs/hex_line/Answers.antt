@@ -10,10 +10,10 @@ loop-b-init c = search rules
 
 pub loop-b-preserved : goal.loop-b-preserved
 loop-b-preserved c =
-    hex_more c.args.bytes.now c.loop-b.b-index _ _ _ _ _ c.hex-digits.result c.loop-b-test.true c.loop-b.invariant c.hex-digits.ensures refl refl
-    c.in-ok-push.ensures.items c.in-ok-push-2.ensures.items
+    hex_more c.args.bytes.now c.loop-b.b-index _ _ _ _ _ c.hex_digits.result c.loop-b-test.true c.loop-b.invariant c.hex_digits.ensures refl refl
+    c.in_ok-push.ensures.items c.in_ok-push-2.ensures.items
 
 pub returns : goal.returns
 returns c =
-    c.in-ok-push-3.ensures.items
+    c.in_ok-push-3.ensures.items
     ∙ ap (λ (xs : List ℕ). xs ++ 10 ∷ []) (c.loop-b.invariant ∙ ap hex (take_all c.loop-b.b-index c.args.bytes.now c.loop-b-test.false))

@@ -8,5 +8,5 @@ pub returns : goal.returns
 returns c =
     let n = c.count-n.result in
     let is = c.count-n.ensures in
-    let all = sliced (held c.args.digest.now) c.eight-words.result c.put-words.new.out (replicate 32 0) (n - 0) (4 * n - 0) c.put-words.result c.eight-words.ensures (omega (arith, is.0)) (omega (arith, is.1)) (omega arith) refl c.put-words.ensures in
-    subst (λ (bs : List ℕ). IfOk c.hex-line.result (λ v. vec_items v ≡ hex bs ++ 10 ∷ [])) all c.hex-line.ensures
+    let all = sliced (held c.args.digest.now) c.eight-words.result c.put_words.new.out (replicate 32 0) (n - 0) (4 * n - 0) c.put_words.result c.eight-words.ensures (omega (arith, is.0)) (omega (arith, is.1)) (omega arith) refl c.put_words.ensures in
+    subst (λ (bs : List ℕ). IfOk c.hex_line.result (λ v. vec_items v ≡ hex bs ++ 10 ∷ [])) all c.hex_line.ensures

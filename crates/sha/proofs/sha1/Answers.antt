@@ -6,6 +6,6 @@ use Rattle.sha.proofs.sha1.Goals as goal
 
 pub returns : goal.returns
 returns c = record {
-  answer = sums shacal1 sha1 digest_sha1 c.args.parts.now c.digest_of.result c.digest_of.ensures;
+  answer = sums shacal1 sha1 digest_sha1 c.args.parts.now c.digest_of.result c.digest_of.ensures.hashes c.digest_of.ensures.measured;
   agrees = digest_sha1;
 }

@@ -1,4 +1,4 @@
-use Rattle.std.proofs.Common.{◌^◌, ◌<◌, ◌≤◌, length, arith, lit<}
+use Rattle.std.proofs.Common.{◌^◌, ◌<◌, arith, lit<}
 use Rattle.std.proofs.lemmas.Fmt.{length-decimal-le}
 use Rattle.bench_run.proofs.lines.push_decimal.Goals as goal
 

@@ -1,4 +1,4 @@
-use Rattle.std.proofs.Common.{◌≡◌, ℕ, List, ◌++◌, codes, decimal, ap, ◌∙◌, arith}
+use Rattle.std.proofs.Common.{ℕ, List, ◌++◌, codes, decimal, ap, ◌∙◌, arith}
 use Rattle.bench_run.specs.Lines.{opening_line}
 use Rattle.bench_run.proofs.lines.put_opening.Goals as goal
 

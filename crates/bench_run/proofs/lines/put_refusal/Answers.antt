@@ -1,4 +1,4 @@
-use Rattle.std.proofs.Common.{◌≡◌, ℕ, List, ◌++◌, codes, decimal, ap, ◌∙◌, arith}
+use Rattle.std.proofs.Common.{ℕ, List, ◌++◌, codes, decimal, ap, ◌∙◌, arith}
 use Rattle.faults.specs.Refusals.{label}
 use Rattle.bench_run.specs.Lines.{refusal_line}
 use Rattle.bench_run.proofs.lines.put_refusal.Goals as goal

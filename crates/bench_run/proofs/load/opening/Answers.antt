@@ -1,4 +1,4 @@
-use Rattle.std.proofs.Common.{◌≡◌, ℕ, ap, ◌∙◌}
+use Rattle.std.proofs.Common.{◌≡◌, ap, ◌∙◌}
 use Rattle.order.specs.Orders.{opening}
 use Rattle.order.specs.Views.{listed}
 use Rattle.sheet.specs.Reading.{base, table, orders}

@@ -1,4 +1,4 @@
-use Rattle.std.proofs.Common.{◌≡◌, ◌%◌, ◌<◌, ◌≤◌, ◌++◌, length, take, replicate, sym, refl, ap, ◌∙◌, arith, rules}
+use Rattle.std.proofs.Common.{◌≡◌, ◌++◌, length, take, replicate, ap, ◌∙◌, rules}
 use Rattle.words.specs.Words.{words}
 use Rattle.hash.specs.Digests.{forward, digest, field}
 use Rattle.hash.proofs.Closed.{closed_one, closed_two}

@@ -1,4 +1,4 @@
-use Rattle.std.proofs.Common.{◌≡◌, ◌*◌, ◌%◌, ◌^◌, refl, ap, ◌∙◌, arith, rules}
+use Rattle.std.proofs.Common.{◌*◌, ◌%◌, ◌^◌, refl, ◌∙◌}
 use Rattle.hash.proofs.Closed.{measured}
 use Rattle.hash.proofs.close.put_length.Goals as goal
 

@@ -1,4 +1,4 @@
-use Rattle.std.proofs.Common.{◌≡◌, ◌-◌, length, take, drop, refl, ap, ◌∙◌, arith, rules}
+use Rattle.std.proofs.Common.{length, drop, refl, ap, ◌∙◌}
 use Rattle.std.proofs.lemmas.List.{take_rest, take_at}
 use Rattle.hash.proofs.Grown.{grown_less, grown_more}
 use Rattle.hash.proofs.grow.grow.Goals as goal

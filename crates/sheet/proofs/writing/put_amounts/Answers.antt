@@ -1,4 +1,4 @@
-use Rattle.std.proofs.Common.{◌≡◌, ap, ◌∙◌, arith}
+use Rattle.std.proofs.Common.{ap, ◌∙◌, arith}
 use Rattle.words.specs.Words.{word_bytes}
 use Rattle.order.specs.Views.{view}
 use Rattle.sheet.proofs.Puts.{amounts_more, amounts_all}

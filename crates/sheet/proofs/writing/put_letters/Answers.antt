@@ -1,4 +1,4 @@
-use Rattle.std.proofs.Common.{◌≡◌, set, ap, ◌∙◌, arith}
+use Rattle.std.proofs.Common.{set, ap, ◌∙◌, arith}
 use Rattle.order.specs.Views.{view}
 use Rattle.sheet.proofs.Puts.{letters_more, letters_all}
 use Rattle.sheet.proofs.writing.put_letters.Goals as goal

@@ -11,4 +11,4 @@ walk_from-requires g c =
     let is : held c.initial.result ≡ m.initial = c.initial.ensures in
     let long : length (held c.initial.result) ≡ n = omega (arith, ap length is, law.starts.long, c.width-n.ensures) in
     let front : take n c.eight-hx.result ≡ m.initial = ap (take n) c.eight-hx.ensures ∙ take_at (held c.initial.result) _ n long ∙ is in
-    ((front, front), c.requires)
+    record { hx_value = (front, front); within = c.requires }

@@ -24,7 +24,7 @@ unreachable-requires g c =
     let j = c.saturating_sub-j.result in
     let cx = length_blocks x in
     let cy = length_blocks y in
-    c.requires.1.1 (never m x y i j (block_count x - i) (omega arith) (omega arith) (below_from (2 ^ 8) x (λ k. (c.type_inv.x k).fits)) (below_from (2 ^ 8) y (λ k. (c.type_inv.y k).fits)) c.requires.1.0 (omega arith) (omega arith) c.in-None.ensures.last)
+    c.requires.within.1 (never m x y i j (block_count x - i) (omega arith) (omega arith) (below_from (2 ^ 8) x (λ k. (c.type_inv.x k).fits)) (below_from (2 ^ 8) y (λ k. (c.type_inv.y k).fits)) c.requires.within.0 (omega arith) (omega arith) c.in-None.ensures.last)
 
 pub returns : goal.returns
 returns g c =
@@ -40,4 +40,4 @@ returns g c =
     let dy = c.in_step-last.ensures.y ∙ before_all m y (block_count y) (sym cy) in
     let one : digest m x ≡ digest m y = sym dx ∙ c.same.ensures.0 c.if-not-same.false ∙ dy in
     let hit = found m x y i j (block_count x - i) (omega arith) (omega arith) k one c.in-Some.ensures.last in
-    record { within = c.requires.1.0; unlike = c.requires.1.1; shared = one; collides = hit; only = stops_once m x y (i + k) (j + k) hit.stops }
+    record { within = c.requires.within.0; unlike = c.requires.within.1; shared = one; collides = hit; only = stops_once m x y (i + k) (j + k) hit.stops }

@@ -1,4 +1,4 @@
-use Rattle.std.proofs.Common.{◌≡◌, cond, length, sym, refl, ap, ◌∙◌, arith, eq-eqb}
+use Rattle.std.proofs.Common.{cond, length, sym, refl, ap, ◌∙◌, arith, eq-eqb}
 use Rattle.words.specs.Steps.{added}
 use Rattle.words.proofs.Summed.{summed_more, summed_all}
 use Rattle.words.proofs.sums.add_words.Goals as goal

@@ -1,4 +1,4 @@
-use Rattle.std.proofs.Common.{◌≡◌, ◌+◌, ◌-◌, ◌%◌, ◌^◌, ◌++◌, length, take, sym, refl, ap, ◌∙◌, subst, arith, rules}
+use Rattle.std.proofs.Common.{◌≡◌, ◌+◌, ◌-◌, ◌%◌, ◌^◌, ◌++◌, length, take, sym, refl, subst, arith, rules}
 use Rattle.std.proofs.lemmas.List.{take_at}
 use Rattle.words.proofs.Bytes.{below_from}
 use Rattle.hash.specs.Digests.{Stands}

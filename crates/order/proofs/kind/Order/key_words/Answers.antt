@@ -1,4 +1,4 @@
-use Rattle.std.proofs.Common.{◌≡◌, ◌^◌, ◌<◌, arith}
+use Rattle.std.proofs.Common.{◌^◌, ◌<◌, arith}
 use Rattle.order.specs.Views.{view}
 use Rattle.order.proofs.Keys.{key_words_are}
 use Rattle.order.proofs.kind.Order.key_words.Goals as goal

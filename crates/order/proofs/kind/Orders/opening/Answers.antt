@@ -1,7 +1,7 @@
-use Rattle.std.proofs.Common.{◌≡◌, ◌+◌, ◌*◌, ◌≤◌, true, map, drop, sym, refl, ap, ◌∙◌, arith}
+use Rattle.std.proofs.Common.{◌≡◌, ◌+◌, ◌*◌, ◌≤◌, map, drop, sym, refl, ap, ◌∙◌, arith}
 use Rattle.timetable.specs.Hours.{opens_at, next}
 use Rattle.order.specs.Orders.{apply, applied, opening}
-use Rattle.order.specs.Views.{view, listed}
+use Rattle.order.specs.Views.{view}
 use Rattle.order.proofs.Openings.{in_range, apply_open, apply_latest, applied_more, applied_all}
 use Rattle.order.proofs.kind.Orders.opening.Goals as goal
 

@@ -1,4 +1,4 @@
-use Rattle.std.proofs.Common.{◌≡◌, ◌≤◌, refl, ◌∙◌, arith, rules}
+use Rattle.std.proofs.Common.{◌≡◌, refl, ◌∙◌, arith}
 use Rattle.order.proofs.Listing.{length_listed, listed_push}
 use Rattle.order.proofs.kind.Orders.push.Goals as goal
 

@@ -1,4 +1,4 @@
-use Rattle.std.proofs.Common.{◌≡◌, ◌≤◌, sym, inl, inr}
+use Rattle.std.proofs.Common.{◌≤◌, sym, inl, inr}
 use Rattle.std.proofs.lemmas.Bool.{cases_lt, le-ltb}
 use Rattle.sheet.specs.Reading.{count}
 use Rattle.sheet.proofs.Opened.{out_of_range, order_in_range}
