@@ -1,22 +1,20 @@
 -- The two statements on two books. Assumes nothing.
-use Rattle.std.proofs.Common.{◌≡◌, ℕ, ◌%◌, ◌^◌, ◌≤◌, Bool, true, false, List, [], ◌∷◌, length, get_or, Decides, MatchBool, sym, refl, ap, ◌∙◌, subst, arith}
+use Rattle.std.proofs.Common.{◌≡◌, ℕ, ◌%◌, ◌^◌, Bool, true, false, List, [], ◌∷◌, get_or, Decides, MatchBool, sym, refl, ap, ◌∙◌, subst, arith}
 use Rattle.std.proofs.lemmas.Bool.{false≢true}
 use Rattle.words.specs.Words.{Below, Row, bytes, words}
 use Rattle.words.proofs.Bytes.{bytes_below, word_joined}
-use Rattle.cipher.specs.Meaning.{Meaning, Lawful, Same}
+use Rattle.cipher.specs.Meaning.{Meaning, Lawful}
 use Rattle.hash.specs.Digests.{digest}
 use Rattle.hash.proofs.Rows.{digest_row}
 use Rattle.order.specs.Orders as order
-use Rattle.order_table.specs.Lines.{orders}
 use Rattle.order_table.proofs.Lined.{orders_in_range, orders_few}
 use Rattle.turning.specs.Turned.{turned}
 use Rattle.sheet.specs.Sheets as sheets
-use Rattle.sheet.specs.Contents.{Contents, Holds, Accepted}
+use Rattle.sheet.specs.Contents.{Contents}
 use Rattle.sheet.specs.Reading as reading
 use Rattle.sheet.proofs.Written.{accepted, holds}
 use Rattle.ledger.specs.Ledgers.{Ledger, Sound, in_force, register, code, opening, sheet, seal}
-use Rattle.trace.specs.Walk.{Found, Collides}
-use Rattle.compare.specs.Alike.{Five, NothingLeftBehind, SharedSealCollides}
+use Rattle.compare.specs.Alike.{NothingLeftBehind, SharedSealCollides}
 use Rattle.compare.specs.Verdicts.{collision, Judges, Compares}
 use Rattle.compare.specs.declared.verdict.Verdict.{Verdict}
 use Rattle.compare.specs.declared.verdict.Verdict.TheVariants.{SealsDiffer, SameSheet, Collision, CiphersDiffer}
