@@ -5,7 +5,7 @@ use Rattle.faults.specs.declared.grounds.BookFault.TheVariants.{Buffer, Order as
 use Rattle.faults.specs.declared.grounds.BufferFault.TheVariants.{Short}
 use Rattle.faults.specs.declared.grounds.OrderFault.TheVariants.{Letter, Amount}
 use Rattle.ledger.specs.Ledgers.{Given, blank}
-use Rattle.ledger.specs.Calls.{Call, answers, set_up, enter, undo, relieve, ask_opening, ask_register, ask_code, ask_sheet, ask_seal, done, number, hour, figure, written, refused}
+use Rattle.ledger.specs.Calls.{Call, answers, set_up, enter, undo, relieve, ask_opening, ask_register, ask_code, ask_seal, done, number, hour, figure, written, refused}
 use Rattle.trace.specs.Walk.{Collides}
 use Rattle.bench_full.specs.Bench.{bench}
 use Rattle.practice.specs.Practice.{practice}
