@@ -330,14 +330,14 @@ mod tests {
         assert!(rt; m <= 33);
         assert_eq!(rt;
             &register[..m],
-            b"\x02\xc2\x1d\x2b\x1f\xed\x6d\x34\x1f\x83\x90\xa8\x24\xf6\x4f\xa8\x8e\x0c\x76\xa8\xf7\xa5\x7e\xcd\xee\x1f\x30\x2b\xa4\x9c\xaa\xa3"
+            b"\x02\xc2\x1d\x2b\x1f\xed\x6d\x34\x1f\x83\x90\xa8\x24\xf6\x4f\xa8\x8e\x0c\x76\xa8\xf7\xa5\x7e\xcd\xee\x1f\x30\x2b\xa4\x9c\xaa\xa3".as_slice()
         );
         let mut seal = narrow();
         let n = book.seal(&mut seal)?;
         assert!(rt; n <= 33);
         assert_eq!(rt;
             &seal[..n],
-            b"\x45\x57\x83\x14\xc9\xea\xeb\xda\x02\x0d\x74\x31\xe1\x31\x29\xc5\x6a\x9c\x51\x0e\xad\x36\x74\x1b\xc8\x6b\x25\x36\x18\x5d\xac\xcc"
+            b"\x45\x57\x83\x14\xc9\xea\xeb\xda\x02\x0d\x74\x31\xe1\x31\x29\xc5\x6a\x9c\x51\x0e\xad\x36\x74\x1b\xc8\x6b\x25\x36\x18\x5d\xac\xcc".as_slice()
         );
         refuses(&rt, &mut book, Step::Enter('D', 1), 33)?;
         refuses(&rt, &mut book, Step::Enter('D', 721), 17)?;
@@ -512,7 +512,7 @@ mod tests {
         let mut sheet = wide();
         let n = book.sheet(&mut sheet)?;
         assert!(rt; n <= 358);
-        assert_eq!(rt; &sheet[..n], THREE);
+        assert_eq!(rt; &sheet[..n], THREE.as_slice());
         assert_eq!(rt; load_fault(&START_BYTES[..19], &THREE[..51]), 12);
         assert_eq!(rt; load_fault(START_BYTES, &THREE[..51]), 18);
         assert_eq!(rt; load_fault(START_BYTES, START_BYTES), 18);
