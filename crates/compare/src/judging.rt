@@ -35,7 +35,7 @@ fn read_seal<C: Cipher>(book: &Book<C>, out: &mut [u8; 32]) -> usize
 }
 
 fn same_seal<C: Cipher, D: Cipher>(a: &Book<C>, b: &Book<D>) -> bool
-    ensures { MatchBool result (bytes_of (seal_of (C.Cipher.meaning a.now.cipher) (told (C.Cipher.meaning a.now.cipher) a.now)) ≡ bytes_of (seal_of (D.Cipher.meaning b.now.cipher) (told (D.Cipher.meaning b.now.cipher) b.now))) ((bytes_of (seal_of (C.Cipher.meaning a.now.cipher) (told (C.Cipher.meaning a.now.cipher) a.now)) ≢ bytes_of (seal_of (D.Cipher.meaning b.now.cipher) (told (D.Cipher.meaning b.now.cipher) b.now)))) }
+    ensures { MatchBool result (bytes_of (seal_of (C.Cipher.meaning a.now.cipher) (told (C.Cipher.meaning a.now.cipher) a.now)) ≡ bytes_of (seal_of (D.Cipher.meaning b.now.cipher) (told (D.Cipher.meaning b.now.cipher) b.now))) (bytes_of (seal_of (C.Cipher.meaning a.now.cipher) (told (C.Cipher.meaning a.now.cipher) a.now)) ≢ bytes_of (seal_of (D.Cipher.meaning b.now.cipher) (told (D.Cipher.meaning b.now.cipher) b.now))) }
 {
     let mut one = [0u8; 32];
     let mut two = [0u8; 32];
