@@ -1,5 +1,5 @@
 -- What a call does to the ledger that a book tells. Assumes nothing.
-use Rattle.std.proofs.Common.{◌≡◌, ℕ, ◌+◌, true, false, cond, List, [], ◌∷◌, ◌++◌, length, replicate, sym, refl, ap, ◌∙◌, subst, arith}
+use Rattle.std.proofs.Common.{◌≡◌, ℕ, ◌+◌, false, List, [], ◌∷◌, ◌++◌, length, replicate, sym, refl, ap, ◌∙◌, subst, arith}
 use Rattle.std.proofs.lemmas.List.{append-nil, length_push}
 use Rattle.words.specs.Words.{Row}
 use Rattle.cipher.specs.Meaning.{Meaning, Lawful}
@@ -7,7 +7,7 @@ use Rattle.order.specs.Orders.{Order, AllInRange, key}
 use Rattle.order_table.specs.Lines.{Line, LinesInRange, orders, marked, Around, pick}
 use Rattle.order_table.proofs.Lined.{orders_append, orders_in_range}
 use Rattle.turning.specs.Turned.{Name, turned, back}
-use Rattle.turning.proofs.Turning.{replaced, back_append}
+use Rattle.turning.proofs.Turning.{replaced}
 use Rattle.ledger.specs.Ledgers.{Given, Ledger, blank, opening}
 use Rattle.ledger.specs.Calls.{set_up, enter, undo, relieve, done, number, hour, change, reply}
 use Rattle.ledger.specs.Told.{tells}

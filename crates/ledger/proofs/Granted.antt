@@ -1,5 +1,5 @@
 -- Calls granted and refused. Assumes nothing.
-use Rattle.std.proofs.Common.{◌≡◌, ℕ, ◌*◌, ◌<◌, ◌≤◌, Bool, true, false, cond, not, eqb, ltb, leb, List, [], ◌∷◌, length, Err, sym, refl, ap, ◌∙◌, arith}
+use Rattle.std.proofs.Common.{◌≡◌, ℕ, ◌<◌, ◌≤◌, true, false, not, eqb, List, [], ◌∷◌, length, Err, sym, refl, ap, ◌∙◌, arith}
 use mathlib.Core.Option.{Option, none, some}
 use Rattle.std.proofs.lemmas.Bool.{not-true, and_parts}
 use Rattle.std.proofs.lemmas.Bool.Decides.{nat_tests as tests}
@@ -14,9 +14,9 @@ use Rattle.cipher.specs.Meaning.{Meaning}
 use Rattle.timetable.specs.Hours.{ever_open}
 use Rattle.order.specs.Orders.{lettered, ranged, delay}
 use Rattle.order.specs.Views.{Makes}
-use Rattle.order_table.specs.Lines.{Line, Longest, first, undo_fault, pick}
-use Rattle.ledger.specs.Ledgers.{Given, Ledger, sheet}
-use Rattle.ledger.specs.Calls.{Call, Answer, set_up, enter, undo, relieve, ask_register, ask_sheet, ask_seal, refused, empty, room_fault, ground, change, reply, after, answer}
+use Rattle.order_table.specs.Lines.{Line, Longest, undo_fault, pick}
+use Rattle.ledger.specs.Ledgers.{Given, Ledger}
+use Rattle.ledger.specs.Calls.{Call, set_up, enter, undo, relieve, refused, empty, room_fault, ground, change, reply, after, answer}
 
 pub granted : (m : Meaning) (c : Call) (l : Ledger) → ground m c l ≡ none → (after m c l ≡ change c l) × (answer m c l ≡ reply m c l (change c l))
 unfolding after answer

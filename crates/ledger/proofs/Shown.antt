@@ -1,5 +1,5 @@
 -- What a book shows is what its ledger says. Assumes nothing.
-use Rattle.std.proofs.Common.{◌≡◌, ℕ, ◌^◌, ◌≤◌, true, List, length, sym, refl, ap, ◌∙◌}
+use Rattle.std.proofs.Common.{◌≡◌, ℕ, ◌^◌, ◌≤◌, true, List, length}
 use Rattle.words.specs.Words.{Below, Row}
 use Rattle.cipher.specs.Meaning.{Meaning, Lawful}
 use Rattle.timetable.specs.Hours.{ever_open}
@@ -7,7 +7,7 @@ use Rattle.order_table.specs.Lines.{Line, LinesInRange, orders}
 use Rattle.order_table.proofs.Lined.{orders_in_range}
 use Rattle.turning.specs.Turned.{Name}
 use Rattle.turning.proofs.Turning.{turned_back, back_row}
-use Rattle.ledger.specs.Ledgers.{Ledger, Sound, register}
+use Rattle.ledger.specs.Ledgers.{Sound, register}
 use Rattle.ledger.specs.Told.{tells}
 
 module _ (m : Meaning) (law : Lawful m) (name : List ℕ) (named : Name name) (base : ℕ) (table r : List ℕ) (row : Row m.width r) (ls : List Line) (fits : LinesInRange ls) where
