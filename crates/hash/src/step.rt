@@ -16,6 +16,7 @@ pub fn forward<C: Cipher>(
 ) -> Result<(), CipherFault>
     ensures answer { result ≡ told (C.Cipher.meaning cipher.now).width chain.old }
     ensures chain { chain.new ≡ turned (C.Cipher.meaning cipher.now).width (λ h. forward_of (C.Cipher.meaning cipher.now) h block.now) chain.old }
+    ensures stepped { length chain.old ≡ (C.Cipher.meaning cipher.now).width → chain.new ≡ forward_of (C.Cipher.meaning cipher.now) chain.old block.now }
 {
     // the compiler knows the cipher's word count, and not the length of the slice
     let n = cipher.width();

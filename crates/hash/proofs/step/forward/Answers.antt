@@ -17,7 +17,9 @@ returns g c =
     let is : held c.in-Some.old ≡ h = c.in-Some.ensures ∙ take_all (n - 0) h all in
     let same : take (n - 0) c.eight-before.result ≡ h = ap (take (n - 0)) c.eight-before.ensures ∙ take_at (held c.in-Some.old) _ (n - 0) (ap length is ∙ long) ∙ is in
     let kept : length c.encrypt.new.block ≡ length h = search rules in
+    let stepped = forwarded m h c.args.block.now c.encrypt.new.block _ _ wide c.in_ok-encrypt.ensures.block same kept c.add_words.ensures.onto in
     record {
       answer = answer;
-      chain = forwarded m h c.args.block.now c.encrypt.new.block _ _ wide c.in_ok-encrypt.ensures.block same kept c.add_words.ensures.onto ∙ sym (turned_at m.width (λ x. forward m x c.args.block.now) h wide);
+      chain = stepped ∙ sym (turned_at m.width (λ x. forward m x c.args.block.now) h wide);
+      stepped = λ e. stepped;
     }
