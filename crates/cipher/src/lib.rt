@@ -12,8 +12,10 @@ use faults::CipherFault;
 use words::Block;
 
 mod bytes;
+mod direction;
 
 pub use bytes::{decrypt_bytes, encrypt_bytes};
+pub use direction::{Decrypt, Direction, Encrypt};
 
 pub trait Cipher {
     ghost meaning: { Self → Meaning };
