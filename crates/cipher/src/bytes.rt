@@ -1,32 +1,22 @@
 // Encryption and decryption of bytes, for every cipher.
-ghost use Rattle.std.specs.Prelude.{◌≡◌, ◌-◌, ◌*◌, ◌≤◌, ◌++◌, length, replicate, if◌then◌else◌, Ok, Err};
-ghost use Rattle.words.specs.Words.{bytes as bytes_of};
+ghost use Rattle.std.specs.Prelude.{◌≡◌, if◌then◌else◌, Ok, Err};
 ghost use Rattle.cipher.specs.Bytes.{key_fits, key_words, byte_told, byte_turned, opened as opened_of};
 
 use crate::Cipher;
 use crate::direction::{Decrypt, Direction, Encrypt};
 use faults::CipherFault;
-use words::{put_words, read_words};
+use words::{padded, put_words, read_words};
 
-// The bytes, and zeros behind them up to 64.
-fn padded(key: &[u8]) -> [u8; 64]
-    requires { length key.now ≤ 64 }
-    ensures { result ≡ key.now ++ replicate (64 - length key.now) 0 }
-{
-    let mut full = [0; 64];
-    full[0..key.len()].copy_from_slice(key);
-    full
-}
-
-// The key's sixteen words. A key under 16 or over 64 bytes is refused.
+// The key's sixteen words, zero bytes behind it up to 64. A key under 16 or over 64 bytes is refused.
 fn read_key(key: &[u8]) -> Result<[u32; 16], CipherFault>
     ensures { result ≡ (if key_fits key.now then Ok (key_words key.now) else Err CipherFault.Key) }
 {
-    if key.len() < 16 || 64 < key.len() {
+    if key.len() < 16 {
         return Err(CipherFault::Key);
     }
+    let full: [u8; 64] = padded(key, 0).ok_or(CipherFault::Key)?;
     let mut words = [0; 16];
-    read_words(&padded(key), &mut words);
+    read_words(&full, &mut words)?;
     Ok(words)
 }
 
@@ -39,12 +29,8 @@ fn open_bytes<C: Cipher>(
     ensures { result ≡ opened_of (C.meaning cipher.now).width key.now block.now }
 {
     let key_words = read_key(key)?;
-    let n = cipher.width();
-    if block.len() != 4 * n {
-        return Err(CipherFault::Block);
-    }
     let mut words = [0; 8];
-    read_words(block, &mut words[0..n]);
+    read_words(block, &mut words[..cipher.width()])?;
     Ok((key_words, words))
 }
 
