@@ -1,5 +1,5 @@
 -- What a reader finds as it goes through the checks. Assumes nothing.
-use Rattle.std.proofs.Common.{◌≡◌, ℕ, zero, suc, ◌+◌, ◌-◌, ◌<◌, ◌≤◌, min, List, [], ◌∷◌, ◌++◌, length, take, drop, Ok, Err, Result, sym, ap, ◌∙◌, subst, inl, inr, arith, length-drop}
+use Rattle.std.proofs.Common.{◌≡◌, ℕ, zero, suc, ◌+◌, ◌-◌, ◌<◌, ◌≤◌, min, List, [], ◌∷◌, ◌++◌, length, take, drop, true, is_ok, Ok, Err, Result, sym, refl, ap, ◌∙◌, subst, inl, inr, arith, length-drop}
 use mathlib.Core.Option.{none, some}
 use Rattle.std.proofs.lemmas.List.{take_all, take_rest, drop_all}
 use Rattle.std.proofs.lemmas.Bool.{cases_lt, both_ways}
@@ -92,3 +92,8 @@ in_range_from bs j (suc n) (suc i) r h = let e : j + 1 + i ≡ j + suc i = omega
 -- the orders of an accepted sheet are in range
 pub order_in_range : (bs : List ℕ) (i : ℕ) → sheet_fault bs ≡ none → i < count bs → InRange (order_at bs i)
 order_in_range bs i e h = let z : 0 + i ≡ i = omega arith in subst (λ (k : ℕ). InRange (order_at bs k)) z (in_range_from bs 0 (count bs) i (none_fault bs e).2 h)
+
+-- and so each of them is made
+pub made : (bs : List ℕ) (i : ℕ) → sheet_fault bs ≡ none → i < count bs → (r : Result Order OrderFault) → Makes (letter_place bs i) (amount_place bs i) (order_at bs i).letter (order_at bs i).amount r → is_ok r ≡ true
+made bs i e h (Ok o) m = refl
+made bs i e h (Err f) m = absurd (out_of_range _ _ _ _ f m (order_in_range bs i e h))
