@@ -1,4 +1,4 @@
--- The lines that the bench prints. Assumes nothing.
+-- The lines that both benches print. Assumes nothing.
 use Rattle.std.specs.Prelude.{ℕ, List, ◌++◌, codes, decimal}
 use Rattle.faults.specs.Refusals.{label}
 use Rattle.faults.specs.declared.layer.Refusal.{Refusal}
