@@ -32,12 +32,7 @@ impl<C: Cipher> Book<C> {
         ensures fills { Fills (bytes_of (register (C.Cipher.meaning self.now.cipher) (told (C.Cipher.meaning self.now.cipher) self.now))) out.old out.new result }
         ensures wide { length (register (C.Cipher.meaning self.now.cipher) (told (C.Cipher.meaning self.now.cipher) self.now)) ≡ (C.Cipher.meaning self.now.cipher).width }
     {
-        known(
-            &self.cipher,
-            &self.name,
-            self.timetable.bytes(),
-            &self.register,
-        );
+        known(&self.cipher, &self.name, &self.register);
         let width = self.cipher.width();
         put_words(&self.register[..width], out)
     }
@@ -61,12 +56,7 @@ impl<C: Cipher> Book<C> {
         ensures fills { Fills (sheet (told (C.Cipher.meaning self.now.cipher) self.now)) out.old out.new result }
         ensures sound { Sound (C.Cipher.meaning self.now.cipher) (told (C.Cipher.meaning self.now.cipher) self.now) }
     {
-        known(
-            &self.cipher,
-            &self.name,
-            self.timetable.bytes(),
-            &self.register,
-        );
+        known(&self.cipher, &self.name, &self.register);
         write(
             &self.name,
             self.base,
