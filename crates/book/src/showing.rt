@@ -19,7 +19,7 @@ use words::{Block, put_words};
 // tried, and the proof didn't close: of an array handed on by `&mut` a caller is told no element's range.
 pub(crate) fn known<C: Cipher>(cipher: &C, name: &[u8; 8], register: &[u32; 8])
     ensures named { Name name.now }
-    ensures row { Row (C.Cipher.meaning cipher.now).width (take (C.Cipher.meaning cipher.now).width register.now) }
+    ensures row { Row (C.meaning cipher.now).width (take (C.meaning cipher.now).width register.now) }
 {
     let _ = name.is_empty();
     let _ = register.is_empty();
@@ -28,8 +28,8 @@ pub(crate) fn known<C: Cipher>(cipher: &C, name: &[u8; 8], register: &[u32; 8])
 // The digest of no more bytes than a sheet has.
 pub(crate) fn digest<C: Cipher>(cipher: &C, bytes: &[u8]) -> Block
     requires { length bytes.now ≤ 357 }
-    ensures value { held result ≡ digest_of (C.Cipher.meaning cipher.now) bytes.now }
-    ensures wide { length (held result) ≡ (C.Cipher.meaning cipher.now).width }
+    ensures value { held result ≡ digest_of (C.meaning cipher.now) bytes.now }
+    ensures wide { length (held result) ≡ (C.meaning cipher.now).width }
 {
     match digest_of(cipher, &[bytes]) {
         Ok(digest) => digest,
