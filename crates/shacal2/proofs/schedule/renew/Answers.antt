@@ -20,5 +20,5 @@ loop-i-preserved c = (
 
 pub returns : goal.returns
 returns c =
-    let e : c.loop-i.i ≡ c.args.to = omega (arith, c.loop-i.auto.i-end c.requires.0) in
+    let e : c.loop-i.i ≡ c.args.to = omega (arith, c.loop-i.auto.i-end c.requires.rising) in
     record { rolled = λ k l r. subst (λ n. Rolled fresh k c.loop-i.r n) e (c.loop-i.invariant.0 k l r); kept = c.loop-i.invariant.1 }
