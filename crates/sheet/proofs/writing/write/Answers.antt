@@ -11,13 +11,13 @@ use Rattle.sheet.proofs.Written.{length_sheet, reads_back}
 use Rattle.sheet.proofs.Puts.{put_sheet}
 use Rattle.sheet.proofs.writing.write.Goals as goal
 
-pub returns-then-out-total : goal.returns-then-out-total
-returns-then-out-total c =
+pub returns-then-out-total-clause-fills : goal.returns-then-out-total-clause-fills
+returns-then-out-total-clause-fills c =
     let t = c.args.timetable.now in
     let lines = c.as_slice-lines.result.now in
     let count : length (listed c.args.orders.now) ≡ length lines = ap length (sym c.as_slice-lines.ensures.value) ∙ length-map lines view in
     let long = length_sheet c.args.name.now c.args.base.hour t.bytes (listed c.args.orders.now) in
-    record { fills = (refl, omega (arith, t.long), refl); reads_back = tt }
+    (refl, omega (arith, t.long), refl)
 
 pub returns : goal.returns
 returns c =
