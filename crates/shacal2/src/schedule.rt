@@ -72,6 +72,7 @@ pub(crate) const K: [u32; 64] = [
     0xC671_78F2,
 ];
 
+// Not one over const parameters, for the reason that stands at `big0`.
 fn small0(x: u32) -> u32
     ensures { result ≡ smallZero x }
 {
