@@ -11,7 +11,7 @@ ghost use Rattle.shacal1.specs.Laws;
 
 use cipher::{Cipher, initial_block};
 use faults::CipherFault;
-use steps::{Choose, K0, K1, K2, K3, Majority, Parity, State, backward, forward};
+use steps::{First, Fourth, Second, State, Third, backward, forward};
 use words::Block;
 
 mod steps;
@@ -32,18 +32,18 @@ fn renewed(w: &[u32; 16]) -> [u32; 16]
 fn enciphered(key: &[u32; 16], block: State) -> State
     ensures { row result ≡ Enc key.now (row block) }
 {
-    let s = forward::<Choose>(key, K0, block);
+    let s = forward::<First>(key, block);
     let w1 = renewed(key);
-    let s = forward::<Choose>(&w1[0..4], K0, s);
-    let s = forward::<Parity>(&w1[4..16], K1, s);
+    let s = forward::<First>(&w1[0..4], s);
+    let s = forward::<Second>(&w1[4..16], s);
     let w2 = renewed(&w1);
-    let s = forward::<Parity>(&w2[0..8], K1, s);
-    let s = forward::<Majority>(&w2[8..16], K2, s);
+    let s = forward::<Second>(&w2[0..8], s);
+    let s = forward::<Third>(&w2[8..16], s);
     let w3 = renewed(&w2);
-    let s = forward::<Majority>(&w3[0..12], K2, s);
-    let s = forward::<Parity>(&w3[12..16], K3, s);
+    let s = forward::<Third>(&w3[0..12], s);
+    let s = forward::<Fourth>(&w3[12..16], s);
     let w4 = renewed(&w3);
-    forward::<Parity>(&w4, K3, s)
+    forward::<Fourth>(&w4, s)
 }
 
 // The 80 steps undone, the last first.
@@ -54,14 +54,14 @@ fn deciphered(key: &[u32; 16], block: State) -> State
     let w2 = renewed(&w1);
     let w3 = renewed(&w2);
     let w4 = renewed(&w3);
-    let s = backward::<Parity>(&w4, K3, block);
-    let s = backward::<Parity>(&w3[12..16], K3, s);
-    let s = backward::<Majority>(&w3[0..12], K2, s);
-    let s = backward::<Majority>(&w2[8..16], K2, s);
-    let s = backward::<Parity>(&w2[0..8], K1, s);
-    let s = backward::<Parity>(&w1[4..16], K1, s);
-    let s = backward::<Choose>(&w1[0..4], K0, s);
-    backward::<Choose>(key, K0, s)
+    let s = backward::<Fourth>(&w4, block);
+    let s = backward::<Fourth>(&w3[12..16], s);
+    let s = backward::<Third>(&w3[0..12], s);
+    let s = backward::<Third>(&w2[8..16], s);
+    let s = backward::<Second>(&w2[0..8], s);
+    let s = backward::<Second>(&w1[4..16], s);
+    let s = backward::<First>(&w1[0..4], s);
+    backward::<First>(key, s)
 }
 
 // The cipher as a value: it holds nothing.

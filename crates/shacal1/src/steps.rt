@@ -1,38 +1,41 @@
 // The steps: one, one undone, and those of a phase, in which the function and the constant stay.
-ghost use Rattle.std.specs.Prelude.{◌≡◌};
+ghost use Rattle.std.specs.Prelude.{◌≡◌, ℕ};
 ghost use Rattle.words.specs.Steps.{Mix, choose as chosen, parity as parityOf, majority as majorityOf};
 ghost use Rattle.shacal1.specs.Shacal1.{turn as turned, unturn as unturned};
 ghost use Rattle.shacal1.specs.Phases.{row, phase, unphase};
 
 use words::{choose, majority};
 
-// The constants of the four phases of twenty steps.
-pub(crate) const K0: u32 = 0x5A82_7999;
+// A phase of twenty steps: its function of three words and its constant.
+pub(crate) trait Phase {
+    const K: u32;
 
-pub(crate) const K1: u32 = 0x6ED9_EBA1;
+    ghost K: { ℕ };
 
-pub(crate) const K2: u32 = 0x8F1B_BCDC;
-
-pub(crate) const K3: u32 = 0xCA62_C1D6;
-
-// The function of three words in a phase.
-pub(crate) trait Mixing {
     ghost mixes: { Mix };
 
     fn mix(b: u32, c: u32, d: u32) -> u32
         ensures { result ≡ mixes b c d };
 }
 
-// In the first phase.
-pub(crate) struct Choose;
+// The first phase.
+pub(crate) struct First;
 
-// In the second and the fourth.
-pub(crate) struct Parity;
+// The second phase and the fourth, which differ in the constant alone.
+pub(crate) struct Parity<const C: u32>;
 
-// In the third.
-pub(crate) struct Majority;
+pub(crate) type Second = Parity<0x6ED9_EBA1>;
 
-impl Mixing for Choose {
+// The third phase.
+pub(crate) struct Third;
+
+pub(crate) type Fourth = Parity<0xCA62_C1D6>;
+
+impl Phase for First {
+    const K: u32 = 0x5A82_7999;
+
+    ghost K = { 0x5A82_7999 };
+
     ghost mixes = { chosen };
 
     fn mix(b: u32, c: u32, d: u32) -> u32 {
@@ -40,7 +43,11 @@ impl Mixing for Choose {
     }
 }
 
-impl Mixing for Parity {
+impl<const C: u32> Phase for Parity<C> {
+    const K: u32 = C;
+
+    ghost K = { C };
+
     ghost mixes = { parityOf };
 
     fn mix(b: u32, c: u32, d: u32) -> u32 {
@@ -48,7 +55,11 @@ impl Mixing for Parity {
     }
 }
 
-impl Mixing for Majority {
+impl Phase for Third {
+    const K: u32 = 0x8F1B_BCDC;
+
+    ghost K = { 0x8F1B_BCDC };
+
     ghost mixes = { majorityOf };
 
     fn mix(b: u32, c: u32, d: u32) -> u32 {
@@ -67,16 +78,16 @@ pub(crate) struct State {
 }
 
 impl State {
-    // One step, with the word w of the schedule and the phase's constant k.
-    fn turn<M: Mixing>(self, w: u32, k: u32) -> State
-        ensures { row result ≡ turned M.mixes k w (row self) }
+    // One step of the phase, with the word w of the schedule.
+    fn turn<P: Phase>(self, w: u32) -> State
+        ensures { row result ≡ turned P.mixes P.K w (row self) }
     {
         // before the sum, since the compiler orders the sum otherwise
-        let f = M::mix(self.b, self.c, self.d);
+        let f = P::mix(self.b, self.c, self.d);
         let sum = w
             .wrapping_add(self.a.rotate_left(5))
             .wrapping_add(f)
-            .wrapping_add(k);
+            .wrapping_add(P::K);
         State {
             a: sum.wrapping_add(self.e),
             b: self.a,
@@ -87,15 +98,15 @@ impl State {
     }
 
     // One step undone.
-    fn unturn<M: Mixing>(self, w: u32, k: u32) -> State
-        ensures { row result ≡ unturned M.mixes k w (row self) }
+    fn unturn<P: Phase>(self, w: u32) -> State
+        ensures { row result ≡ unturned P.mixes P.K w (row self) }
     {
         let b = self.c.rotate_left(2);
-        let f = M::mix(b, self.d, self.e);
+        let f = P::mix(b, self.d, self.e);
         let sum = w
             .wrapping_add(self.b.rotate_left(5))
             .wrapping_add(f)
-            .wrapping_add(k);
+            .wrapping_add(P::K);
         State {
             a: self.b,
             b,
@@ -106,18 +117,18 @@ impl State {
     }
 }
 
-// Steps of a phase over the words w; k is its constant.
-pub(crate) fn forward<M: Mixing>(w: &[u32], k: u32, block: State) -> State
-    ensures { row result ≡ phase M.mixes k w.now (row block) }
+// Steps of a phase over the words w.
+pub(crate) fn forward<P: Phase>(w: &[u32], block: State) -> State
+    ensures { row result ≡ phase P.mixes P.K w.now (row block) }
 {
-    w.iter().fold(block, |s, x| s.turn::<M>(*x, k))
+    w.iter().fold(block, |s, x| s.turn::<P>(*x))
 }
 
 // The same steps undone, the last first.
-pub(crate) fn backward<M: Mixing>(w: &[u32], k: u32, block: State) -> State
-    ensures { row result ≡ unphase M.mixes k w.now (row block) }
+pub(crate) fn backward<P: Phase>(w: &[u32], block: State) -> State
+    ensures { row result ≡ unphase P.mixes P.K w.now (row block) }
 {
-    w.iter().rev().fold(block, |s, x| s.unturn::<M>(*x, k))
+    w.iter().rev().fold(block, |s, x| s.unturn::<P>(*x))
 }
 
 impl From<[u32; 5]> for State {

@@ -12,8 +12,8 @@ use Rattle.shacal1.proofs.steps.backward.Goals as goal
 pub returns : goal.returns
 unfolding unphase
 returns g c =
-    let f = g.M.Mixing.mixes in
-    let k = c.args.k in
+    let f = g.P.Phase.mixes in
+    let k = g.P.Phase.K in
     let road = YieldsList-from_rev_slice {s = c.rev.result} c.args.w.now (cc) in
     fold_over (rev_steps iter_steps_back) (λ y. y.now) _ (λ ys s. row s ≡ unphase f k (reverse ys) (row c.args.block)) _
     (λ ys a x b f' e q.

@@ -9,8 +9,8 @@ use Rattle.shacal1.proofs.steps.forward.Goals as goal
 pub returns : goal.returns
 unfolding phase
 returns g c =
-    let f = g.M.Mixing.mixes in
-    let k = c.args.k in
+    let f = g.P.Phase.mixes in
+    let k = g.P.Phase.K in
     let road = YieldsList-from_slice {s = c.iter.result} c.args.w.now c.iter.ensures.rest in
     fold_over fronts (λ y. y.now) _ (λ ys s. row s ≡ phase f k ys (row c.args.block)) _
     (λ ys a x b f' e q.
