@@ -81,7 +81,7 @@ impl Cipher for Shacal2 {
         ])
     }
 
-    // One form of these two would take a closure over `[u32; N]`: tried, the borrow checker does not cover it.
+    // Not one form with a closure: its contract would be longer than the three lines that these two share.
     fn encrypt(&self, key: &[u32; 16], block: &mut [u32]) -> Result<(), CipherFault> {
         let block = block.as_mut_array::<8>().ok_or(CipherFault::Block)?;
         *block = enciphered(key, State::from(*block)).into();
