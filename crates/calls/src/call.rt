@@ -1,7 +1,5 @@
 ghost use Rattle.std.specs.Prelude.{◌≡◌, ◌≤◌, length};
 
-use faults::BookFault;
-
 // A call on a book. The number behind a question is the length of the buffer offered.
 #[derive(Clone, Copy)]
 pub enum Call<'a> {
@@ -28,6 +26,7 @@ pub struct Written {
     ghost few: { count ≤ 357 },
 }
 
+// What a call that is granted answers.
 #[derive(Clone, Copy)]
 pub enum Answer {
     Done,
@@ -36,5 +35,4 @@ pub enum Answer {
     Hour(u32),
     Code(u32),
     Bytes(Written),
-    Refused(BookFault),
 }

@@ -1,8 +1,9 @@
 -- The end of a message: mark, length, and the last block or two. Assumes nothing.
-use Rattle.std.proofs.Common.{◌≡◌, ℕ, ◌+◌, ◌-◌, ◌*◌, ◌/◌, ◌%◌, ◌^◌, ◌<◌, ◌≤◌, List, [], ◌∷◌, ◌++◌, length, take, drop, set, replicate, sym, ap, ◌∙◌, append_assoc, append-nil, add-one, arith, length-append}
+use Rattle.std.proofs.Common.{◌≡◌, ℕ, ◌+◌, ◌-◌, ◌*◌, ◌/◌, ◌%◌, ◌^◌, ◌<◌, ◌≤◌, List, [], ◌∷◌, ◌++◌, length, take, drop, set, replicate, w64, sym, ap, ◌∙◌, append_assoc, append-nil, add-one, arith, length-append}
 use lib.ListN.{length-replicate}
 use borrow.Rule.Slice.PartMut.{put_mid}
 use Rattle.std.proofs.lemmas.List.{set_split, length-take-le, length_push, take-append-drop, drop_all, take_at, replicate-append-replicate}
+use Rattle.std.specs.Int.{to_be_bytes}
 use Rattle.words.specs.Words.{words, word_bytes}
 use Rattle.words.proofs.Puts.{put_next}
 use Rattle.cipher.specs.Meaning.{Meaning}
@@ -35,20 +36,26 @@ word_bytes_mod x y e =
     let d : y % 2 ^ 8 ≡ x % 2 ^ 8 = omega arith in
     λ i. a i ∷ b i ∷ c i ∷ d i ∷ []
 
-pub measured : (tail high low : List ℕ) (count bits : ℕ) → length tail ≡ 64 → bits ≡ count * 8 % 2 ^ 64 → high ≡ word_bytes (bits / 2 ^ 32) → low ≡ word_bytes (bits % 2 ^ 32)
-    → put_mid 60 4 (put_mid 56 4 tail high) low ≡ take 56 tail ++ field count
-measured tail high low count bits long is h l =
+-- eight bytes are those of two words
+two_words : (n : ℕ) → to_be_bytes w64 n ≡ word_bytes (n / 2 ^ 32) ++ word_bytes (n % 2 ^ 32)
+two_words n =
+    let a : n / 2 ^ 56 % 2 ^ 8 ≡ n / 2 ^ 32 / 2 ^ 24 % 2 ^ 8 = omega arith in
+    let b : n / 2 ^ 48 % 2 ^ 8 ≡ n / 2 ^ 32 / 2 ^ 16 % 2 ^ 8 = omega arith in
+    let c : n / 2 ^ 40 % 2 ^ 8 ≡ n / 2 ^ 32 / 2 ^ 8 % 2 ^ 8 = omega arith in
+    λ i. a i ∷ b i ∷ c i ∷ n / 2 ^ 32 % 2 ^ 8 ∷ word_bytes_mod (n % 2 ^ 32) n (omega arith) i
+
+-- the number of bits, behind what stands in front of it
+pub measured : (tail part : List ℕ) (count : ℕ) → length tail ≡ 64 → part ≡ to_be_bytes w64 (count * 8 % 2 ^ 64) → put_mid 56 8 tail part ≡ take 56 tail ++ field count
+measured tail part count long is =
     let front = take 56 tail in
-    let lf : length front ≡ 56 = length-take-le 56 tail (omega arith) in
-    let first = put_next front high tail tail 56 4 lf (sym (take-append-drop 56 tail)) in
-    let lh : length (front ++ high) ≡ 60 = length-append front high ∙ omega (arith, ap length h) in
+    let bits = count * 8 % 2 ^ 64 in
     let none : drop 64 tail ≡ [] = drop_all 64 tail (omega arith) in
-    let upper : high ≡ word_bytes (8 * count / 2 ^ 32) = h ∙ word_bytes_mod (8 * count / 2 ^ 32) (bits / 2 ^ 32) (omega arith) in
-    let lower : low ≡ word_bytes (8 * count % 2 ^ 32) = l ∙ word_bytes_mod (8 * count % 2 ^ 32) (bits % 2 ^ 32) (omega arith) in
-    put_next (front ++ high) low tail _ 60 4 lh first
-    ∙ (λ i. front ++ upper i ++ lower i ++ none i)
-    ∙ append-nil (front ++ word_bytes (8 * count / 2 ^ 32) ++ word_bytes (8 * count % 2 ^ 32))
-    ∙ append_assoc front (word_bytes (8 * count / 2 ^ 32)) (word_bytes (8 * count % 2 ^ 32))
+    let upper = word_bytes_mod (8 * count / 2 ^ 32) (bits / 2 ^ 32) (omega arith) in
+    let lower = word_bytes_mod (8 * count % 2 ^ 32) (bits % 2 ^ 32) (omega arith) in
+    put_next front part tail tail 56 8 (length-take-le 56 tail (omega arith)) (sym (take-append-drop 56 tail))
+    ∙ (λ i. front ++ (is ∙ two_words bits) i ++ none i)
+    ∙ append-nil (front ++ (word_bytes (bits / 2 ^ 32) ++ word_bytes (bits % 2 ^ 32)))
+    ∙ (λ i. front ++ (upper i ++ lower i))
 
 module _ (m : Meaning) (count : ℕ) (tail h bs : List ℕ) (long : length tail ≡ 64) (stands : Stands m count (take (count % 64) tail) h bs) where
   -- one block

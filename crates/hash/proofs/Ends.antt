@@ -1,5 +1,5 @@
 -- The steps of a program that adds bytes, and the end of a message. Assumes nothing.
-use Rattle.std.proofs.Common.{◌≡◌, ℕ, ◌+◌, ◌-◌, ◌*◌, ◌/◌, ◌<◌, ◌≤◌, List, [], ◌∷◌, ◌++◌, length, take, drop, replicate, sym, refl, ap, ◌∙◌, subst, append_assoc, arith, length-append, length-drop, take-append-drop, length-take, drop-drop, take-add}
+use Rattle.std.proofs.Common.{◌≡◌, ℕ, ◌+◌, ◌-◌, ◌*◌, ◌/◌, ◌<◌, ◌≤◌, List, [], ◌∷◌, ◌++◌, length, take, drop, replicate, sym, refl, ap, ◌∙◌, subst, append_assoc, arith, length-append, length-drop, take-append-drop, length-take, drop-drop}
 use lib.ListN.{length-replicate, replicate-append-replicate}
 use Rattle.words.specs.Words.{words}
 use Rattle.cipher.specs.Meaning.{Meaning}
@@ -16,19 +16,6 @@ moved : (m : Meaning) (c d : ℕ) (t u h bs cs : List ℕ) → c ≡ d → t ≡
 moved m c d t u h bs cs p q r s = subst (λ (x : ℕ). Stands m x u h cs) p (subst (λ (x : List ℕ). Stands m c x h cs) q (subst (λ (x : List ℕ). Stands m c t h x) r s))
 
 module _ (m : Meaning) (count : ℕ) where
-  -- a block of its own, on an empty tail
-  pub block : (h bs ds : List ℕ) → Stands m count [] h bs → length ds ≡ 64 → Stands m (count + 64) [] (forward m h (words ds)) (bs ++ ds)
-  block h bs ds s l = subst (λ (c : ℕ). Stands m (count + c) [] (forward m h (words ds)) (bs ++ ds)) l (full m count [] h bs s ds (omega arith))
-
-  -- the block at i of ds
-  pub block_at : (i : ℕ) (h bs ds : List ℕ) → Stands m count [] h (bs ++ take i ds) → i + 64 ≤ length ds
-      → Stands m (count + 64) [] (forward m h (words (take 64 (drop i ds)))) (bs ++ take (i + 64) ds)
-  block_at i h bs ds s l =
-      let ps = take 64 (drop i ds) in
-      moved m (count + 64) (count + 64) [] [] (forward m h (words ps)) (bs ++ take i ds ++ ps) (bs ++ take (i + 64) ds) refl refl
-      (append_assoc bs (take i ds) ps ∙ ap (λ (r : List ℕ). bs ++ r) (sym (take-add i 64 ds)))
-      (block h (bs ++ take i ds) ps s (simp (length-take, length-drop) (omega arith)))
-
   -- what is behind i of ds, on an empty tail
   behind : (i n : ℕ) (h bs ds : List ℕ) → Stands m count [] h (bs ++ take i ds) → i + 64 * n ≤ length ds → length ds < i + 64 * n + 64
       → Stands m (count + (length ds - i)) (drop (i + 64 * n) ds) (chain m h (cut n (words (drop i ds)))) (bs ++ ds)
@@ -38,12 +25,6 @@ module _ (m : Meaning) (count : ℕ) where
       (bs ++ take i ds ++ drop i ds) (bs ++ ds) (omega arith) (drop-drop (64 * n) i ds)
       (append_assoc bs (take i ds) (drop i ds) ∙ ap (λ (r : List ℕ). bs ++ r) (take-append-drop i ds))
       (more m count [] h (bs ++ take i ds) s n (drop i ds) (omega arith) (omega arith))
-
-  -- what is left at i of ds
-  pub rest_at : (i : ℕ) (h bs ds : List ℕ) → Stands m count [] h (bs ++ take i ds) → i ≤ length ds → length ds < i + 64
-      → Stands m (count + (length ds - i)) (drop i ds) h (bs ++ ds)
-  unfolding chain cut
-  rest_at i h bs ds s lo hi = subst (λ (j : ℕ). Stands m (count + (length ds - i)) (drop j ds) h (bs ++ ds)) (omega arith) (behind i 0 h bs ds s (omega arith) (omega arith))
 
 module _ (m : Meaning) (count : ℕ) (t h bs : List ℕ) (s : Stands m count t h bs) where
   -- as a program does it: f bytes fill the tail, n blocks come straight from ds, the rest is kept

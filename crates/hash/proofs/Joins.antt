@@ -1,7 +1,8 @@
 -- Parts joined one behind the other. Assumes nothing.
-use Rattle.std.proofs.Common.{◌≡◌, ℕ, ◌+◌, ◌<◌, ◌≤◌, List, [], ◌∷◌, ◌++◌, length, get_or, take, drop, sym, refl, ap, ◌∙◌, subst, append_assoc, arith, length-append, take-append-drop, Bor}
+use Rattle.std.proofs.Common.{◌≡◌, ℕ, ◌+◌, ◌<◌, List, [], ◌++◌, length, get_or, take, sym, ap, ◌∙◌, subst, arith, Bor}
 use Rattle.std.specs.List.{flat_map}
 use Rattle.std.proofs.lemmas.List.{take_more, flat_map_more}
+use Rattle.std.proofs.lemmas.List.Folds.{length-flat_map-take}
 use Rattle.words.specs.Words.{Below, Row}
 use Rattle.cipher.specs.Meaning.{Meaning}
 use Rattle.hash.specs.Messages.{Open}
@@ -10,16 +11,6 @@ use Rattle.hash.specs.Messages.{Open}
 pub joined_front : (parts : List (Bor (List ℕ))) (i : ℕ) (d : Bor (List ℕ)) → i < length parts
     → flat_map (λ x. x.now) (take (i + 1) parts) ≡ flat_map (λ x. x.now) (take i parts) ++ (get_or parts i d).now
 joined_front parts i d h = ap (flat_map (λ x. x.now)) (take_more parts i d h) ∙ sym (flat_map_more (λ x. x.now) [] (take i parts) (get_or parts i d))
-
-joined_append : (xs ys : List (Bor (List ℕ))) → flat_map (λ x. x.now) (xs ++ ys) ≡ flat_map (λ x. x.now) xs ++ flat_map (λ x. x.now) ys
-joined_append [] ys = refl
-joined_append (x ∷ xs) ys = ap (λ (bs : List ℕ). x.now ++ bs) (joined_append xs ys) ∙ sym (append_assoc x.now (flat_map (λ x. x.now) xs) (flat_map (λ x. x.now) ys))
-
--- the first parts join to no more than all
-pub joined_most : (parts : List (Bor (List ℕ))) (i : ℕ) → length (flat_map (λ x. x.now) (take i parts)) ≤ length (flat_map (λ x. x.now) parts)
-joined_most parts i =
-    let e : flat_map (λ x. x.now) parts ≡ flat_map (λ x. x.now) (take i parts) ++ flat_map (λ x. x.now) (drop i parts) = ap (flat_map (λ x. x.now)) (sym (take-append-drop i parts)) ∙ joined_append (take i parts) (drop i parts) in
-    omega (arith, ap length e, length-append (flat_map (λ x. x.now) (take i parts)) (flat_map (λ x. x.now) (drop i parts)))
 
 -- a message over a cipher of the same meaning, and over equal bytes
 pub opens_like : (m n : Meaning) (count : ℕ) (tail chain bs cs : List ℕ) → m ≡ n → bs ≡ cs → Open m count tail chain bs → Open n count tail chain cs
@@ -36,5 +27,4 @@ row_like m xs ys e r = subst (Row m.width) (sym e) r
 -- where a part passes a bound, so does the join
 pub joined_over : (parts : List (Bor (List ℕ))) (i count bound : ℕ) (d : Bor (List ℕ)) → i < length parts → count ≡ length (flat_map (λ x. x.now) (take i parts))
     → bound < count + length (get_or parts i d).now → bound < length (flat_map (λ x. x.now) parts)
-joined_over parts i count bound d h is over =
-    omega (arith, ap length (joined_front parts i d h), length-append (flat_map (λ x. x.now) (take i parts)) (get_or parts i d).now, joined_most parts (i + 1))
+joined_over parts i count bound d h is over = omega (arith, length-flat_map-take (λ (x : Bor (List ℕ)). x.now) parts i d h)

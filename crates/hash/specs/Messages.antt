@@ -14,6 +14,10 @@ use Rattle.hash.specs.Digests.{Stands, digest}
 abbrev pub limit : ℕ
 limit = 16777216
 
+-- the words of a chaining value, which stand in front of its eight places
+abbrev pub value : Meaning → List ℕ → List ℕ
+value m places = take m.width places
+
 -- a count, the room for the tail and the room for the chaining value stand for bytes
 abbrev pub Open : Meaning → ℕ → List ℕ → List ℕ → List ℕ → Type 0
 Open m count tail chain bs = Stands m count (take (count % 64) tail) (take m.width chain) bs

@@ -1,32 +1,27 @@
-ghost use Rattle.std.specs.Prelude.{◌≡◌, ℕ, ◌+◌, ◌%◌, ◌<◌, ◌≤◌, List, ◌++◌, length, take};
-ghost use Rattle.words.specs.Blocks.{held};
-ghost use Rattle.hash.specs.Digests.{Stands, digest};
+ghost use Rattle.std.specs.Prelude.{◌≡◌, ℕ, ◌+◌, List, ◌++◌, length};
+ghost use Rattle.hash.specs.Messages.{Open};
 
-use crate::step::{absorb, absorb_all};
+use crate::message::Message;
 use cipher::Cipher;
-use words::Block;
 
-// Bytes behind the first `used` of the tail: they fill it, whole blocks come straight from them, and the rest is the
-// new tail.
-pub(crate) fn grow<C: Cipher>(
-    cipher: &C,
-    chain: &mut [u32],
-    tail: &mut [u8],
-    used: usize,
-    data: &[u8],
-)
-    requires { (length chain.old ≡ (C.Cipher.meaning cipher.now).width) × ((length tail.old ≡ 64) × (used < 64)) }
-    ensures { (count : ℕ) (bs : List ℕ) → count % 64 ≡ used → Stands (C.Cipher.meaning cipher.now) count (take used tail.old) chain.old bs → Stands (C.Cipher.meaning cipher.now) (count + length «data».now) (take ((count + length «data».now) % 64) tail.new) chain.new (bs ++ «data».now) }
-{
-    let room = 64 - used;
-    if data.len() < room {
-        tail[used..used + data.len()].copy_from_slice(data);
-        return;
+impl<'a, C: Cipher> Message<'a, C> {
+    // Bytes behind those of the tail: they fill it, whole blocks come straight from them, and the rest is the new tail.
+    pub(crate) fn grow(&mut self, data: &[u8])
+        ensures cipher { self.new.chain.cipher.now ≡ self.old.chain.cipher.now }
+        ensures count { self.new.count ≡ self.old.count }
+        ensures stands { (bs : List ℕ) → Open (C.Cipher.meaning self.old.chain.cipher.now) self.old.count self.old.tail self.old.chain.places bs → Open (C.Cipher.meaning self.old.chain.cipher.now) (self.old.count + length «data».now) self.new.tail self.new.chain.places (bs ++ «data».now) }
+    {
+        let used = self.count % 64;
+        let room = 64 - used;
+        if data.len() < room {
+            self.tail[used..used + data.len()].copy_from_slice(data);
+            return;
+        }
+        let (front, rest) = data.split_at(room);
+        self.tail[used..64].copy_from_slice(front);
+        self.chain.absorb(&self.tail);
+        let (blocks, last) = rest.as_chunks::<64>();
+        self.chain.absorb_all(blocks);
+        self.tail[0..last.len()].copy_from_slice(last);
     }
-    let (front, rest) = data.split_at(room);
-    tail[used..64].copy_from_slice(front);
-    absorb(cipher, chain, tail);
-    let n = absorb_all(cipher, chain, rest);
-    let last = &rest[n..];
-    tail[0..last.len()].copy_from_slice(last);
 }

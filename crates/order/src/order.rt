@@ -38,6 +38,12 @@ impl Order {
         }
     }
 
+    pub fn kind(self) -> Kind
+        ensures { result ≡ self.kind }
+    {
+        self.kind
+    }
+
     pub fn letter(self) -> u8
         ensures { result ≡ (view self).letter }
     {

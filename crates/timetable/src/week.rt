@@ -7,11 +7,11 @@ use faults::TimetableFault;
 
 const WEEK: u64 = 168;
 
-// The bit of an hour of the week.
-fn opens(bytes: &[u8; 21], week_hour: u64) -> bool
-    requires { week_hour < 168 }
-    ensures { result ≡ bit_at bytes.now week_hour }
+// Whether an hour is open: its bit, as an hour of the week.
+fn opens(bytes: &[u8; 21], hour: u64) -> bool
+    ensures { result ≡ opens_at bytes.now hour }
 {
+    let week_hour = hour % WEEK;
     let byte = bytes[(week_hour / 8) as usize];
     (byte >> (7 - week_hour % 8)) % 2 == 1
 }
@@ -19,12 +19,7 @@ fn opens(bytes: &[u8; 21], week_hour: u64) -> bool
 fn any_open(bytes: &[u8; 21]) -> bool
     ensures { result ≡ ever_open bytes.now }
 {
-    for w in 0..WEEK {
-        if opens(bytes, w) {
-            return true;
-        }
-    }
-    false
+    (0..WEEK).any(|hour| opens(bytes, hour))
 }
 
 impl BaseHour {
@@ -87,7 +82,7 @@ impl Timetable {
     pub fn is_open(&self, hour: u64) -> bool
         ensures { result ≡ opens_at self.now.bytes hour }
     {
-        opens(&self.bytes, hour % WEEK)
+        opens(&self.bytes, hour)
     }
 
     // How many hours it is from an hour to the next open one; none where the hour itself is open.
@@ -98,11 +93,8 @@ impl Timetable {
         ensures soon { result ≤ 167 }
     {
         let from = hour % WEEK;
-        for n in 0..167 {
-            if opens(&self.bytes, (from + n) % WEEK) {
-                return n;
-            }
-        }
-        167
+        (0..WEEK - 1)
+            .find(|n| opens(&self.bytes, from + n))
+            .unwrap_or(WEEK - 1)
     }
 }

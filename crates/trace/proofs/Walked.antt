@@ -1,12 +1,10 @@
 -- Chains along two messages, and the place where a walk back from both ends stops. Assumes nothing.
-use Rattle.std.proofs.Common.{◌≡◌, ℕ, ◌+◌, ◌-◌, ◌^◌, ◌<◌, Bool, true, false, ◌⊎◌, List, [], length, Some, None, Decides, Option, sym, ap, ◌∙◌, subst, inl, inr, add-one, arith, ext_get_or}
+use Rattle.std.proofs.Common.{◌≡◌, ℕ, ◌+◌, ◌-◌, ◌^◌, ◌<◌, Bool, true, false, List, [], length, Some, None, Decides, Option, not, refl, sym, ap, ◌∙◌, subst, inl, inr, add-one, arith, ext_get_or}
 use lib.Seq.{take-length}
 use Rattle.std.proofs.lemmas.Bool.{cases_order}
 use Rattle.words.specs.Words.{Below}
 use Rattle.cipher.specs.Meaning.{Meaning}
-use Rattle.cipher.specs.Turned.{turned}
 use Rattle.hash.specs.Digests.{forward, chain, digest, blocks, block_count}
-use Rattle.hash.proofs.Absorbed.{turned_at}
 use Rattle.hash.proofs.Rows.{chain_step}
 use Rattle.trace.specs.Walk.{before, block, Agree, Stops, Collides, Only, Within, Last}
 use Rattle.trace.proofs.Cuts.{length_blocks, blocks_some, same_count, blocks_inj, last_length}
@@ -26,14 +24,30 @@ unfolding digest
 before_all m msg i e = ap (before m msg) e ∙ ap (chain m m.initial) (take-length (blocks msg))
 
 -- the step as a call leaves it
-pub before_more : (m : Meaning) (msg h b r : List ℕ) (i : ℕ) → i < block_count msg → length h ≡ m.width → h ≡ before m msg i → b ≡ block msg i
-    → r ≡ turned m.width (λ x. forward m x b) h → r ≡ before m msg (i + 1)
-before_more m msg h b r i l wide at is e =
-    e ∙ turned_at m.width (λ x. forward m x b) h wide ∙ (λ k. forward m (at k) (is k)) ∙ sym (before_suc m msg i (omega (arith, length_blocks msg)))
+pub before_more : (m : Meaning) (msg h b r : List ℕ) (i : ℕ) → i < block_count msg → h ≡ before m msg i → b ≡ block msg i → r ≡ forward m h b → r ≡ before m msg (i + 1)
+before_more m msg h b r i l at is e = e ∙ (λ k. forward m (at k) (is k)) ∙ sym (before_suc m msg i (omega (arith, length_blocks msg)))
 
--- a decision that came out false
-pub not_so : {P : Type 0} (r : Bool) → Decides r P → r ≡ false → P → ⊥
-not_so r d e p = let t : true ≡ false = sym (d.1 p) ∙ e in let z : ◌≡◌ {A = ℕ} 0 1 = cc in omega arith
+-- a chain that has come to its end is the digest
+pub ends_at : (m n : Meaning) (x y h : List ℕ) (i : ℕ) → n ≡ m → y ≡ x → i ≡ block_count x → h ≡ before n y i → h ≡ digest m x
+ends_at m n x y h i means is all at = at ∙ (λ k. before (means k) (is k) i) ∙ before_all m x i (all ∙ sym (length_blocks x))
+
+-- a digest over a cipher of the same meaning, of the same message
+pub digest_like : (m n : Meaning) (x u : List ℕ) {h : List ℕ} → h ≡ digest n u → n ≡ m → u ≡ x → h ≡ digest m x
+digest_like m n x u at means is = at ∙ (λ k. digest (means k) (is k))
+
+-- what a comparison for unlikeness found
+pub unlike : {P : Type 0} (s r : Bool) → Decides s P → r ≡ not s → r ≡ true → P → ⊥
+unlike s r d e f p =
+    let z : false ≡ true = ap not (sym (d.1 p)) ∙ sym e ∙ f in
+    let no : ◌≡◌ {A = ℕ} 0 1 = cc in
+    omega arith
+
+pub alike : {P : Type 0} (s r : Bool) → Decides s P → r ≡ not s → r ≡ false → P
+alike true r d e f = d.0 refl
+alike false r d e f =
+    let z : true ≡ false = sym e ∙ f in
+    let no : ◌≡◌ {A = ℕ} 0 1 = cc in
+    absurd (omega arith)
 
 module _ (m : Meaning) (x y : List ℕ) where
   moved : (a b c d : ℕ) → a ≡ c → b ≡ d → Agree m x y a b → Agree m x y c d
@@ -60,15 +74,6 @@ module _ (m : Meaning) (x y : List ℕ) where
     -- a place where it differs
     last_here : (k : ℕ) → (Agree m x y (i + k) (j + k) → ⊥) → Last m x y i j (k + 1) (Some k)
     last_here k d = (omega arith, d, λ q g h. absurd (omega arith))
-
-    -- the place as the calls compare it
-    pub last_more : (k : ℕ) (hx hy bx by : List ℕ) (r : Bool) (o p : Option ℕ) → hx ≡ before m x (i + k) → hy ≡ before m y (j + k) → bx ≡ block x (i + k) → by ≡ block y (j + k)
-        → Decides r ((hx ≡ hy) × (bx ≡ by)) → Last m x y i j k o → ((r ≡ false) × (p ≡ Some k)) ⊎ ((r ≡ true) × (p ≡ o)) → Last m x y i j (k + 1) p
-    last_more k hx hy bx by r o p hx-is hy-is bx-is by-is d f (inl w) =
-        subst (Last m x y i j (k + 1)) (sym w.1) (last_here k (λ a. not_so r d w.0 (hx-is ∙ a.0 ∙ sym hy-is, bx-is ∙ a.1 ∙ sym by-is)))
-    last_more k hx hy bx by r o p hx-is hy-is bx-is by-is d f (inr w) =
-        let e = d.0 w.0 in
-        subst (Last m x y i j (k + 1)) (sym w.1) (last_kept k o f (sym hx-is ∙ e.0 ∙ hy-is, sym bx-is ∙ e.1 ∙ by-is))
 
     module _ (n : ℕ) (x-ends : i + n ≡ length (blocks x)) (y-ends : j + n ≡ length (blocks y)) where
       -- messages that agree down to the front of one of them are the same
@@ -118,3 +123,11 @@ stops_once m x y i j s k l t =
       | inr (inr h) ↦ absurd (later m x y k l i j t s h)
     ] in
     (omega (arith, s.x_left, t.x_left), omega (arith, s.y_left, t.y_left))
+
+-- the last place under other names
+pub last_like : (m n : Meaning) (x y u v : List ℕ) (i j k a b c : ℕ) (o : Option ℕ) → n ≡ m → u ≡ x → v ≡ y → a ≡ i → b ≡ j → c ≡ k → Last n u v a b c o → Last m x y i j k o
+last_like m n x y u v i j k a b c o p q r s t w h =
+    subst (λ (z : ℕ). Last m x y i j z o) w
+    (subst (λ (z : ℕ). Last m x y i z c o) t
+    (subst (λ (z : ℕ). Last m x y z b c o) s
+    (subst (λ (z : List ℕ). Last m x z a b c o) r (subst (λ (z : List ℕ). Last m z v a b c o) q (subst (λ (z : Meaning). Last z u v a b c o) p h)))))

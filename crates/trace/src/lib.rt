@@ -5,25 +5,24 @@
 
 ghost use Rattle.trace.specs.Walk.{Traces};
 
+use crate::padding::Padded;
 use crate::walk::walk;
 use cipher::Cipher;
 use faults::TraceFault;
 
-mod blocks;
+mod padding;
 mod walk;
-
-const LIMIT: usize = 16_777_216;
+mod walker;
 
 // The blocks, counted from 0, of the two messages at which the step collides. Refused are a message over the limit,
 // equal messages, and messages whose digests differ, looked at in this sequence.
 pub fn trace<C: Cipher>(cipher: &C, x: &[u8], y: &[u8]) -> Result<(usize, usize), TraceFault>
     ensures { Traces (C.Cipher.meaning cipher.now) x.now y.now result }
 {
-    if x.len() > LIMIT || y.len() > LIMIT {
-        return Err(TraceFault::Long);
-    }
+    let one = Padded::new(x)?;
+    let other = Padded::new(y)?;
     if x == y {
         return Err(TraceFault::Equal);
     }
-    walk(cipher, x, y)
+    walk(cipher, one, other)
 }

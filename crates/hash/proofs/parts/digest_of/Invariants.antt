@@ -6,7 +6,10 @@ use Rattle.hash.proofs.parts.digest_of.Given as goal
 
 abbrev pub invariant-loop-part : goal.invariant-loop-part
 invariant-loop-part g l =
-    (l.message.cipher.now ≡ l.cipher)
-    × Open (g.C.Cipher.meaning l.cipher) l.message.count l.message.tail l.message.chain (flat_map (λ x. x.now) (take l.part-index l.parts))
-    × (l.message.count ≤ limit)
-    × Below (2 ^ 8) (flat_map (λ x. x.now) (take l.part-index l.parts))
+    let begun = flat_map (λ x. x.now) (take l.part-index l.parts) in
+    record {
+      same : l.message.chain.cipher.now ≡ l.cipher;
+      stands : Open (g.C.Cipher.meaning l.cipher) l.message.count l.message.tail l.message.chain.places begun;
+      within : l.message.count ≤ limit;
+      bytes : Below (2 ^ 8) begun;
+    }
