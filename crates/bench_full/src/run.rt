@@ -8,7 +8,7 @@ use arrayvec::ArrayVec;
 use bench_io::{Line, Mark};
 use book::Book;
 use cipher::Cipher;
-use faults::{BenchFault, BufferFault, CipherFault};
+use faults::{BenchFault, BufferFault, CipherFault, Refusal};
 use loading::load;
 use practice::Practice;
 use shacal1::Shacal1;
@@ -61,7 +61,7 @@ pub fn bench(input: &[u8], out: &mut [u8]) -> Result<usize, BufferFault>
 {
     let line = match answer(input) {
         Ok(found) => Line::from(found),
-        Err(fault) => Line::from(fault.refusal()),
+        Err(fault) => Line::from(Refusal::from(fault)),
     };
     put(line.bytes(), out)
 }
