@@ -21,7 +21,7 @@ impl<C: Cipher> Book<C> {
 
     // The hour at which the lock opens.
     pub fn opening(&self) -> u32
-        ensures value { result ≡ opening (told (C.Cipher.meaning self.now.cipher) self.now) }
+        ensures value { result ≡ opening (told (C.meaning self.now.cipher) self.now) }
         ensures bound { result ≤ 1056935 }
     {
         self.table.in_force().opening(&self.timetable, self.base)
@@ -29,22 +29,17 @@ impl<C: Cipher> Book<C> {
 
     // Writes the register to the front of a buffer, and answers how many bytes it is.
     pub fn register(&self, out: &mut [u8]) -> Result<usize, BufferFault>
-        ensures fills { Fills (bytes_of (register (C.Cipher.meaning self.now.cipher) (told (C.Cipher.meaning self.now.cipher) self.now))) out.old out.new result }
-        ensures wide { length (register (C.Cipher.meaning self.now.cipher) (told (C.Cipher.meaning self.now.cipher) self.now)) ≡ (C.Cipher.meaning self.now.cipher).width }
+        ensures fills { Fills (bytes_of (register (C.meaning self.now.cipher) (told (C.meaning self.now.cipher) self.now))) out.old out.new result }
+        ensures wide { length (register (C.meaning self.now.cipher) (told (C.meaning self.now.cipher) self.now)) ≡ (C.meaning self.now.cipher).width }
     {
-        known(
-            &self.cipher,
-            &self.name,
-            self.timetable.bytes(),
-            &self.register,
-        );
+        known(&self.cipher, &self.name, &self.register);
         let width = self.cipher.width();
         put_words(&self.register[..width], out)
     }
 
     // The code, a number of at most six figures.
     pub fn code(&self) -> u32
-        ensures value { result ≡ code (C.Cipher.meaning self.now.cipher) (told (C.Cipher.meaning self.now.cipher) self.now) }
+        ensures value { result ≡ code (C.meaning self.now.cipher) (told (C.meaning self.now.cipher) self.now) }
         ensures bound { result < 1000000 }
     {
         let mut bytes = [0u8; 32];
@@ -58,15 +53,10 @@ impl<C: Cipher> Book<C> {
     // Writes the sheet of the orders in force to the front of a buffer, and answers its length. What the sheet of every
     // book is made of is said here.
     pub fn sheet(&self, out: &mut [u8]) -> Result<usize, BufferFault>
-        ensures fills { Fills (sheet (told (C.Cipher.meaning self.now.cipher) self.now)) out.old out.new result }
-        ensures sound { Sound (C.Cipher.meaning self.now.cipher) (told (C.Cipher.meaning self.now.cipher) self.now) }
+        ensures fills { Fills (sheet (told (C.meaning self.now.cipher) self.now)) out.old out.new result }
+        ensures sound { Sound (C.meaning self.now.cipher) (told (C.meaning self.now.cipher) self.now) }
     {
-        known(
-            &self.cipher,
-            &self.name,
-            self.timetable.bytes(),
-            &self.register,
-        );
+        known(&self.cipher, &self.name, &self.register);
         write(
             &self.name,
             self.base,
@@ -78,8 +68,8 @@ impl<C: Cipher> Book<C> {
 
     // Writes the seal to the front of a buffer, and answers how many bytes it is.
     pub fn seal(&self, out: &mut [u8]) -> Result<usize, BufferFault>
-        ensures fills { Fills (bytes_of (seal (C.Cipher.meaning self.now.cipher) (told (C.Cipher.meaning self.now.cipher) self.now))) out.old out.new result }
-        ensures wide { length (seal (C.Cipher.meaning self.now.cipher) (told (C.Cipher.meaning self.now.cipher) self.now)) ≡ (C.Cipher.meaning self.now.cipher).width }
+        ensures fills { Fills (bytes_of (seal (C.meaning self.now.cipher) (told (C.meaning self.now.cipher) self.now))) out.old out.new result }
+        ensures wide { length (seal (C.meaning self.now.cipher) (told (C.meaning self.now.cipher) self.now)) ≡ (C.meaning self.now.cipher).width }
     {
         let mut sheet = [0u8; 357];
         let Ok(n) = self.sheet(&mut sheet) else {

@@ -15,22 +15,21 @@ use sheet::write;
 use timetable::{BaseHour, Timetable};
 use words::{Block, put_words};
 
-// What the types tell of each element, said for a caller that has them in a book.
-pub(crate) fn known<C: Cipher>(cipher: &C, name: &[u8; 8], table: &[u8; 21], register: &[u32; 8])
+// What the types tell of each element, said for a caller that has them in a book. As ghost fields of the book it was
+// tried, and the proof didn't close: of an array handed on by `&mut` a caller is told no element's range.
+pub(crate) fn known<C: Cipher>(cipher: &C, name: &[u8; 8], register: &[u32; 8])
     ensures named { Name name.now }
-    ensures tabled { Below (2 ^ 8) table.now }
-    ensures row { Row (C.Cipher.meaning cipher.now).width (take (C.Cipher.meaning cipher.now).width register.now) }
+    ensures row { Row (C.meaning cipher.now).width (take (C.meaning cipher.now).width register.now) }
 {
     let _ = name.is_empty();
-    let _ = table.is_empty();
     let _ = register.is_empty();
 }
 
 // The digest of no more bytes than a sheet has.
 pub(crate) fn digest<C: Cipher>(cipher: &C, bytes: &[u8]) -> Block
     requires { length bytes.now ≤ 357 }
-    ensures value { held result ≡ digest_of (C.Cipher.meaning cipher.now) bytes.now }
-    ensures wide { length (held result) ≡ (C.Cipher.meaning cipher.now).width }
+    ensures value { held result ≡ digest_of (C.meaning cipher.now) bytes.now }
+    ensures wide { length (held result) ≡ (C.meaning cipher.now).width }
 {
     match digest_of(cipher, &[bytes]) {
         Ok(digest) => digest,

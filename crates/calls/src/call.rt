@@ -17,7 +17,8 @@ pub enum Call<'a> {
     Seal(usize),
 }
 
-// The bytes that a question wrote, no more than the longest sheet has.
+// The bytes that a question wrote, no more than the longest sheet has. An array with a count, since the kit's vector of
+// fixed room (`arrayvec`) is not `Copy`, which an answer is.
 #[derive(Clone, Copy)]
 pub struct Written {
     pub(crate) bytes: [u8; 357],

@@ -11,7 +11,7 @@ use std::alloc::{AllocError, Global};
 
 // Makes a call on a book.
 pub fn apply<C: Cipher>(book: &mut Book<C>, call: Call<'_>) -> Result<Answer, BookFault>
-    ensures { Does C.Cipher.meaning (asked call.entry) book.old book.new (said result) }
+    ensures { Does C.meaning (asked call.entry) book.old book.new (said result) }
 {
     match call {
         Call::SetUp(name, base, timetable, start) => {
@@ -42,7 +42,7 @@ pub fn replay<C: Cipher + Drop>(
     heap: Global,
     calls: &[Call<'_>],
 ) -> Result<(Book<C>, Vec<Result<Answer, BookFault>>), AllocError>
-    ensures { IfOk result (λ p. Ran C.Cipher.meaning cipher calls.now p.0 p.1.items) }
+    ensures { IfOk result (λ p. Ran C.meaning cipher calls.now p.0 p.1.items) }
 {
     let mut book = Book::new(cipher);
     let mut out = Vec::new(heap);

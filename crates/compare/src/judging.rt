@@ -13,7 +13,7 @@ use trace::trace;
 
 // The seals of two books are the same bytes.
 fn same_seal<C: Cipher, D: Cipher>(a: &Book<C>, b: &Book<D>) -> bool
-    ensures { MatchBool result (bytes_of (seal_of (C.Cipher.meaning a.now.cipher) (told (C.Cipher.meaning a.now.cipher) a.now)) ≡ bytes_of (seal_of (D.Cipher.meaning b.now.cipher) (told (D.Cipher.meaning b.now.cipher) b.now))) (bytes_of (seal_of (C.Cipher.meaning a.now.cipher) (told (C.Cipher.meaning a.now.cipher) a.now)) ≢ bytes_of (seal_of (D.Cipher.meaning b.now.cipher) (told (D.Cipher.meaning b.now.cipher) b.now))) }
+    ensures { MatchBool result (bytes_of (seal_of (C.meaning a.now.cipher) (told (C.meaning a.now.cipher) a.now)) ≡ bytes_of (seal_of (D.meaning b.now.cipher) (told (D.meaning b.now.cipher) b.now))) (bytes_of (seal_of (C.meaning a.now.cipher) (told (C.meaning a.now.cipher) a.now)) ≢ bytes_of (seal_of (D.meaning b.now.cipher) (told (D.meaning b.now.cipher) b.now))) }
 {
     let mut one = [0u8; 32];
     let mut two = [0u8; 32];
@@ -31,7 +31,7 @@ fn same_seal<C: Cipher, D: Cipher>(a: &Book<C>, b: &Book<D>) -> bool
 fn judge<C: Cipher>(cipher: &C, x: &[u8], y: &[u8]) -> Verdict
     requires x_short { length x.now ≤ 357 }
     requires y_short { length y.now ≤ 357 }
-    ensures { Judges (C.Cipher.meaning cipher.now) x.now y.now result }
+    ensures { Judges (C.meaning cipher.now) x.now y.now result }
 {
     match trace(cipher, x, y) {
         Ok((i, j)) => Verdict::Collision(i, j),
@@ -44,9 +44,9 @@ fn judge<C: Cipher>(cipher: &C, x: &[u8], y: &[u8]) -> Verdict
 
 // What the seals of two books say of them.
 pub fn compare<C: Cipher, D: Cipher>(a: &Book<C>, b: &Book<D>) -> Verdict
-    ensures verdict { Compares (C.Cipher.meaning a.now.cipher) (D.Cipher.meaning b.now.cipher) (told (C.Cipher.meaning a.now.cipher) a.now) (told (D.Cipher.meaning b.now.cipher) b.now) result }
-    ensures same_five { NothingLeftBehind (C.Cipher.meaning a.now.cipher) (D.Cipher.meaning b.now.cipher) (told (C.Cipher.meaning a.now.cipher) a.now) (told (D.Cipher.meaning b.now.cipher) b.now) }
-    ensures shared_seal { SharedSealCollides (C.Cipher.meaning a.now.cipher) (D.Cipher.meaning b.now.cipher) (told (C.Cipher.meaning a.now.cipher) a.now) (told (D.Cipher.meaning b.now.cipher) b.now) (λ i j. result ≡ collision i j) }
+    ensures verdict { Compares (C.meaning a.now.cipher) (D.meaning b.now.cipher) (told (C.meaning a.now.cipher) a.now) (told (D.meaning b.now.cipher) b.now) result }
+    ensures same_five { NothingLeftBehind (C.meaning a.now.cipher) (D.meaning b.now.cipher) (told (C.meaning a.now.cipher) a.now) (told (D.meaning b.now.cipher) b.now) }
+    ensures shared_seal { SharedSealCollides (C.meaning a.now.cipher) (D.meaning b.now.cipher) (told (C.meaning a.now.cipher) a.now) (told (D.meaning b.now.cipher) b.now) (λ i j. result ≡ collision i j) }
 {
     let mut one = [0u8; 357];
     let mut two = [0u8; 357];

@@ -90,7 +90,8 @@ pub enum BookFault {
 }
 
 impl Layer {
-    // The layer's name as a refusal prints it.
+    // The layer's name as a refusal prints it: bytes, and no `Display`, since lines are put together in fixed memory,
+    // and the library's printing promises its text only where writing succeeds.
     pub fn name(self) -> &'static [u8]
         ensures { result.now ≡ label self }
     {

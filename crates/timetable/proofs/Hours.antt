@@ -1,5 +1,5 @@
 -- The next open hour is there, is one, and is less than a week away. Assumes nothing.
-use Rattle.std.proofs.Common.{◌≡◌, ℕ, zero, suc, ◌+◌, ◌-◌, ◌%◌, ◌<◌, ◌≤◌, Bool, true, false, List, length, slice_index, Option, Some, None, MatchBool, MatchOption, unwrap_or, sym, refl, ap, ◌∙◌, inl, inr, arith}
+use Rattle.std.proofs.Common.{◌≡◌, ℕ, zero, suc, ◌+◌, ◌-◌, ◌%◌, ◌^◌, ◌<◌, ◌≤◌, Bool, true, false, List, length, replicate, slice_index, Option, Some, None, MatchBool, MatchOption, unwrap_or, sym, refl, ap, ◌∙◌, inl, inr, arith}
 use Rattle.std.proofs.lemmas.Bool.{both_ways, cases_order}
 use Rattle.std.proofs.lemmas.Bool.Decides.{Decides-below_or}
 use Rattle.std.proofs.lemmas.List.FromFn.{length-range_with_len, get_or-range_with_len}
@@ -136,3 +136,9 @@ waits_found table t (Some n) ever (low, high, opens, shut) = (
 waits_found table t None ever shut =
     let all : Shut table t 167 = λ k h. same_week table (t + k) (t % 168 + k) (omega arith) ∙ shut k (omega arith) h in
     (waits table t 167 all (last_opens table t 167 refl ever all), omega arith)
+
+-- every byte of the timetable that is open at every hour fits
+pub ones_fit : (n k : ℕ) → slice_index (replicate n 255) k < 2 ^ 8
+ones_fit zero k = omega arith
+ones_fit (suc n) zero = omega arith
+ones_fit (suc n) (suc k) = ones_fit n k

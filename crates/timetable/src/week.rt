@@ -23,7 +23,8 @@ fn any_open(bytes: &[u8; 21]) -> bool
 }
 
 impl BaseHour {
-    // A base hour, or a refusal where it is over 1,000,000.
+    // A base hour, or a refusal where it is over 1,000,000. A constructor and no `TryFrom`, beside one that takes a
+    // place.
     pub fn new(hour: u32) -> Result<BaseHour, TimetableFault>
         ensures { elim result [ Ok b ↦ (b.hour ≡ hour) × (hour ≤ 1000000) | Err f ↦ (f ≡ Base 0) × (1000000 < hour) ] }
     {
@@ -49,7 +50,7 @@ impl BaseHour {
 }
 
 impl Timetable {
-    // A timetable, or a refusal where no hour is open.
+    // A timetable, or a refusal where no hour is open. A constructor and no `TryFrom`, as above.
     pub fn new(bytes: [u8; 21]) -> Result<Timetable, TimetableFault>
         ensures { elim result [ Ok t ↦ (t.bytes ≡ bytes) × (ever_open bytes ≡ true) | Err f ↦ (f ≡ Closed 0) × (ever_open bytes ≡ false) ] }
     {

@@ -6,7 +6,8 @@ use crate::block::Block;
 use crate::padding::padded;
 
 impl Block {
-    // The block of these words, or none where they are not one to eight.
+    // The block of these words, or none where they are not one to eight. No `TryFrom`: it would need an error that no
+    // refusal tells.
     pub fn of(words: &[u32]) -> Option<Block>
         ensures { MatchOption result ((1 ≤ length words.now → 8 < length words.now)) (λ b. held b ≡ words.now) }
     {
