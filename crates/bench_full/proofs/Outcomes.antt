@@ -1,17 +1,27 @@
 -- What the bench finds, check by check. Assumes nothing.
-use Rattle.std.proofs.Common.{◌≡◌, ℕ, ◌-◌, ◌*◌, ◌<◌, ◌≤◌, cond, List, [], ◌∷◌, length, get_or, take, drop, Err, Result, refl, ap, ◌∙◌, subst, arith}
+use Rattle.std.proofs.Common.{◌≡◌, ℕ, ◌*◌, ◌<◌, ◌≤◌, cond, List, [], ◌∷◌, length, get_or, take, drop, Ok, Err, Result, IsOk, refl, ap, ◌∙◌, subst, arith}
 use mathlib.Core.Option.{Option, none, some}
-use Rattle.std.proofs.lemmas.List.{length-take-le, take_rest}
+use Rattle.std.proofs.lemmas.List.{length-take-le}
 use Rattle.std.proofs.lemmas.Bool.{lt-ltb, le-ltb}
+use Rattle.faults.specs.declared.grounds.BufferFault.{BufferFault}
 use Rattle.faults.specs.declared.grounds.SheetFault.{SheetFault}
 use Rattle.faults.specs.declared.grounds.BenchFault.{BenchFault}
 use Rattle.faults.specs.declared.grounds.BenchFault.TheVariants.{Mark, Cipher, Sheet}
 use Rattle.faults.specs.declared.grounds.CipherFault.TheVariants.{Key, Block}
 use Rattle.words.specs.Words.{words}
+use Rattle.words.specs.Buffer.{Fills}
+use Rattle.std.specs.List.{IsSplitAt}
 use Rattle.cipher.specs.Meaning.{Meaning}
 use Rattle.sheet.specs.Reading.{sheet_fault}
 use Rattle.book.specs.declared.state.Book.{Book}
 use Rattle.loading.specs.Loaded.{loaded, Loads}
+use Rattle.practice.specs.Practice.{practice}
+use Rattle.shacal1.specs.Shacal1.{shacal1}
+use Rattle.shacal2.specs.Shacal2.{shacal2}
+use Rattle.bench_io.specs.declared.mark.Mark as mark
+use Rattle.bench_io.specs.declared.mark.Mark.TheVariants.{Shacal1, Shacal2, Practice}
+use Rattle.bench_io.specs.Marks.{mark_of}
+use Rattle.bench_io.proofs.ByMark.{chosen, by_mark as choose}
 use Rattle.bench_full.specs.Bench.{Outcome, fails, shown, read_sheet, over, marked, outcome}
 
 pub no_input : (input : List ℕ) → length input < 1 → outcome input ≡ fails Mark
@@ -23,6 +33,15 @@ pub no_mark : (input : List ℕ) → 1 ≤ length input → marked (get_or input
 unfolding outcome
 no_mark [] h e = refl
 no_mark (mark ∷ rest) h e = ap (λ (o : Option Meaning). elim o as (λ x. Outcome) [ none ↦ fails Mark | some m ↦ over m rest ]) e
+
+-- the cipher that goes with a mark
+abbrev pub meant : mark.Mark → Meaning
+meant Shacal1 = shacal1
+meant Shacal2 = shacal2
+meant Practice = practice
+
+pub marked_so : (b : ℕ) (o : Option mark.Mark) → mark_of b ≡ o → marked b ≡ chosen meant o
+marked_so b o e = choose meant b o e
 
 pub by_mark : (input : List ℕ) (m : Meaning) → 1 ≤ length input → marked (get_or input 0 0) ≡ some m → outcome input ≡ over m (drop 1 input)
 unfolding outcome
@@ -56,7 +75,13 @@ not_loaded meaning c rest (Cipher Block) h l = absurd (l (length-take-le (4 * (m
 not_loaded meaning c rest (Sheet f) h l = bad_sheet (meaning c) rest f h l.1
 
 -- the parts as the code cuts them
-pub cut_so : {C : Type 0} (meaning : C → Meaning) (c : C) (rest : List ℕ) (n : ℕ) (r : Result (Book C) BenchFault) → n ≡ (meaning c).width → Loads meaning c (take (4 * n) rest) (take (length rest - 4 * n) (drop (4 * n) rest)) r
+pub cut_so : {C : Type 0} (meaning : C → Meaning) (c : C) (rest rs bs : List ℕ) (n : ℕ) (r : Result (Book C) BenchFault) → n ≡ (meaning c).width → IsSplitAt rest (4 * n) rs bs → Loads meaning c rs bs r
     → Loads meaning c (take (4 * (meaning c).width) rest) (drop (4 * (meaning c).width) rest) r
-cut_so meaning c rest n r e l =
-    subst (λ (k : ℕ). Loads meaning c (take (4 * k) rest) (drop (4 * k) rest) r) e (subst (λ (bs : List ℕ). Loads meaning c (take (4 * n) rest) bs r) (take_rest rest (4 * n)) l)
+cut_so meaning c rest rs bs n r e split l =
+    subst (λ (k : ℕ). Loads meaning c (take (4 * k) rest) (drop (4 * k) rest) r) e
+    (subst (λ (xs : List ℕ). Loads meaning c xs (drop (4 * n) rest) r) split.1 (subst (λ (ys : List ℕ). Loads meaning c rs ys r) split.2 l))
+
+-- an answer that there is room for is written
+pub written : (bs old new : List ℕ) (r : Result ℕ BufferFault) → Fills bs old new r → length bs ≤ length old → IsOk r
+written bs old new (Ok n) f h = refl
+written bs old new (Err f) e h = absurd (omega arith)

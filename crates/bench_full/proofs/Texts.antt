@@ -34,5 +34,5 @@ pub hex_all : (bs front one : List ℕ) (i : ℕ) → length bs ≤ i → one �
 hex_all bs front one i h e = e ∙ ap (λ xs. front ++ hex xs) (take_all i bs h)
 
 -- three lines, pushed part by part
-pub three_lines : (o d n c f s h : List ℕ) → (((((o ++ d) ++ (n ++ c)) ++ f) ++ (n ++ s)) ++ h) ++ n ≡ (o ++ d ++ n) ++ (c ++ f ++ n) ++ (s ++ h ++ n)
+pub three_lines : (o d n c f s h : List ℕ) → (((((o ++ d ++ n) ++ c) ++ f) ++ (n ++ s)) ++ h) ++ n ≡ (o ++ d ++ n) ++ (c ++ f ++ n) ++ (s ++ h ++ n)
 three_lines o d n c f s h = simp append_assoc

@@ -13,7 +13,8 @@ use Rattle.shacal2.specs.Shacal2.{shacal2}
 use Rattle.sheet.specs.Reading.{sheet_fault}
 use Rattle.ledger.specs.Ledgers.{Ledger, opening, code, seal}
 use Rattle.loading.specs.Loaded.{loaded}
-use Rattle.bench_full.specs.Lines.{refusal_line, opening_line, code_line, seal_line}
+use Rattle.bench_io.specs.Lines.{refusal_line, opening_line}
+use Rattle.bench_full.specs.Lines.{code_line, seal_line}
 use Rattle.bench_full.specs.declared.findings.Findings.{Findings}
 
 -- the opening hour, the code and the seal's bytes of a book, or a fault
@@ -52,7 +53,7 @@ bench input = printed (outcome input)
 -- ---- the code's types
 
 abbrev pub finding : Findings → Outcome
-finding f = shows f.opening f.code (take f.count f.seal)
+finding f = shows f.opening f.code f.seal.items
 
 abbrev pub Shows : Meaning → Ledger → Findings → Type 0
 Shows m l f = finding f ≡ shown m l

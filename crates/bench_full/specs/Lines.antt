@@ -1,16 +1,6 @@
--- The lines that the bench prints. Assumes nothing.
-use Rattle.std.specs.Prelude.{ℕ, zero, suc, ◌+◌, ◌/◌, ◌%◌, List, [], ◌∷◌, ◌++◌, codes, decimal}
+-- The lines of a book that the bench prints. Assumes nothing.
+use Rattle.std.specs.Prelude.{ℕ, zero, suc, ◌+◌, ◌/◌, ◌%◌, List, [], ◌∷◌, ◌++◌, codes}
 use Rattle.words.specs.Hex.{hex}
-use Rattle.faults.specs.Refusals.{label}
-use Rattle.faults.specs.declared.layer.Refusal.{Refusal}
-
--- "refused NUMBER LAYER PLACE" and a line end
-unfoldable pub refusal_line : Refusal → List ℕ
-refusal_line r = codes "refused " ++ decimal r.number ++ codes " " ++ label r.layer ++ codes " " ++ decimal r.place ++ codes "\n"
-
--- "opening HOUR" and a line end
-unfoldable pub opening_line : ℕ → List ℕ
-opening_line hour = codes "opening " ++ decimal hour ++ codes "\n"
 
 -- the last n decimal digits of a number
 unfoldable pub last_digits : ℕ → ℕ → List ℕ

@@ -1,14 +1,12 @@
-ghost use Rattle.std.specs.Prelude.{◌≡◌, ◌<◌, ◌≤◌, length};
+ghost use Rattle.std.specs.Prelude.{◌<◌};
+
+use arrayvec::ArrayVec;
 
 // What the bench prints of a book.
-#[derive(Clone, Copy)]
+#[derive(Drop)]
 pub(crate) struct Findings {
     pub(crate) opening: u32,
     pub(crate) code: u32,
-    // the front holds the seal
-    pub(crate) seal: [u8; 32],
-    pub(crate) count: usize,
+    pub(crate) seal: ArrayVec<u8, 32>,
     ghost figures: { code < 1000000 },
-    ghost long: { length seal ≡ 32 },
-    ghost few: { count ≤ 32 },
 }

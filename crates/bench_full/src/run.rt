@@ -1,34 +1,32 @@
-ghost use Rattle.std.specs.Prelude.{◌≡◌, ◌<◌, ◌≤◌, length, Ok, Err};
-ghost use Rattle.std.proofs.Math.Option.{none, some};
+ghost use Rattle.std.specs.Prelude.{◌≡◌, ◌≤◌, length};
 ghost use Rattle.words.specs.Buffer.{Fills};
 ghost use Rattle.book.specs.Told.{told};
 ghost use Rattle.bench_full.specs.Bench.{Shows, over, found, outcome, bench as printed_of};
 
 use crate::findings::Findings;
-use crate::lines::{put_findings, put_refusal};
+use arrayvec::ArrayVec;
+use bench_io::{Line, Mark};
 use book::Book;
 use cipher::Cipher;
-use faults::{BenchFault, BufferFault, CipherFault};
+use faults::{BenchFault, BufferFault, CipherFault, Refusal};
 use loading::load;
 use practice::Practice;
 use shacal1::Shacal1;
 use shacal2::Shacal2;
 use words::put;
 
-// What a book shows.
+// What a book shows. No digest has more than eight words.
 fn ask<C: Cipher>(book: &Book<C>) -> Findings
     ensures { Shows (C.Cipher.meaning book.now.cipher) (told (C.Cipher.meaning book.now.cipher) book.now) result }
 {
-    let mut seal = [0u8; 32];
-    let Ok(count) = book.seal(&mut seal) else {
-        // no digest has more than eight words
-        unreachable()
-    };
+    let mut room = [0u8; 32];
+    let count = book.seal(&mut room).unwrap();
+    let mut seal = ArrayVec::new();
+    seal.try_extend_from_slice(&room[..count]).unwrap();
     Findings {
         opening: book.opening(),
         code: book.code(),
         seal,
-        count,
     }
 }
 
@@ -37,10 +35,8 @@ fn answer_over<C: Cipher + Drop>(cipher: C, rest: &[u8]) -> Result<Findings, Ben
     ensures { over (C.Cipher.meaning cipher) rest.now ≡ found result }
 {
     let n = 4 * cipher.width();
-    if rest.len() < n {
-        return Err(BenchFault::Cipher(CipherFault::Block));
-    }
-    let book = load(cipher, &rest[..n], &rest[n..])?;
+    let (register, sheet) = rest.split_at_checked(n).ok_or(CipherFault::Block)?;
+    let book = load(cipher, register, sheet)?;
     Ok(ask(&book))
 }
 
@@ -51,11 +47,10 @@ fn answer(input: &[u8]) -> Result<Findings, BenchFault>
     let [mark, rest @ ..] = input else {
         return Err(BenchFault::Mark);
     };
-    match *mark {
-        b'1' => answer_over(Shacal1, rest),
-        b'2' => answer_over(Shacal2, rest),
-        b'P' => answer_over(Practice, rest),
-        _ => Err(BenchFault::Mark),
+    match Mark::try_from(*mark)? {
+        Mark::Shacal1 => answer_over(Shacal1, rest),
+        Mark::Shacal2 => answer_over(Shacal2, rest),
+        Mark::Practice => answer_over(Practice, rest),
     }
 }
 
@@ -64,10 +59,9 @@ pub fn bench(input: &[u8], out: &mut [u8]) -> Result<usize, BufferFault>
     ensures fills { Fills (printed_of input.now) out.old out.new result }
     ensures short { length (printed_of input.now) ≤ 128 }
 {
-    let mut line = [0u8; 128];
-    let n = match answer(input) {
-        Ok(found) => put_findings(&mut line, &found),
-        Err(fault) => put_refusal(&mut line, fault.refusal()),
+    let line = match answer(input) {
+        Ok(found) => Line::from(found),
+        Err(fault) => Line::from(Refusal::from(fault)),
     };
-    put(&line[0..n], out)
+    put(line.bytes(), out)
 }

@@ -4,7 +4,7 @@ ghost use Rattle.bench_run.specs.Bench.{opens, fails, outcome, bench as printed_
 
 use crate::load::opening;
 use bench_io::{Line, Mark};
-use faults::{BenchFault, BufferFault, CipherFault};
+use faults::{BenchFault, BufferFault, CipherFault, Refusal};
 use words::put;
 
 // The opening hour of an input, or its first fault.
@@ -26,7 +26,7 @@ pub fn bench(input: &[u8], out: &mut [u8]) -> Result<usize, BufferFault>
 {
     let line = match answer(input) {
         Ok(hour) => Line::opening(hour),
-        Err(fault) => Line::from(fault.refusal()),
+        Err(fault) => Line::from(Refusal::from(fault)),
     };
     put(line.bytes(), out)
 }

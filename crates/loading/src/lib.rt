@@ -11,7 +11,7 @@ ghost use Rattle.loading.specs.Loaded.{entered, loaded, Loads};
 
 use book::Book;
 use cipher::Cipher;
-use faults::{BenchFault, CipherFault};
+use faults::BenchFault;
 use sheet::Reader;
 use words::read_words;
 
@@ -54,9 +54,7 @@ fn load_into<C: Cipher + Drop>(
     requires { length start.old ≡ (C.Cipher.meaning cipher).width }
     ensures { Loads C.Cipher.meaning cipher register.now sheet.now result }
 {
-    if !read_words(register, start) {
-        return Err(BenchFault::Cipher(CipherFault::Block));
-    }
+    read_words(register, start)?;
     let reader = Reader::open(sheet)?;
     Ok(open(cipher, start, &reader))
 }

@@ -4,7 +4,7 @@
 #[cfg(test)]
 mod tests {
     use bench_run::bench;
-    use faults::{BufferFault, OrderFault};
+    use faults::{BufferFault, OrderFault, Refusal};
     use order::{Order, Orders};
     use sheet::{Reader, write};
     use std::process::Abort;
@@ -19,7 +19,7 @@ mod tests {
     fn number(r: Result<Order, OrderFault>) -> u8 {
         match r {
             Ok(_) => 0,
-            Err(f) => f.refusal().number,
+            Err(f) => Refusal::from(f).number,
         }
     }
 
@@ -101,7 +101,7 @@ mod tests {
                 return Err(Fail::new("not read back"));
             };
             assert_eq!(rt; reader.count(), count);
-            assert_eq!(rt; reader.name(), b"SAFE0001".as_slice());
+            assert_eq!(rt; reader.name(), b"SAFE0001");
             assert!(rt; reader.order(count).is_none());
         }
         Ok(())

@@ -10,7 +10,7 @@ unfolding bench
 returns c =
     let line : c.match-answer.line ≡ bench c.args.input.now = elim c.match-answer.branch [
       | in-Ok w ↦ w.line-is ∙ w.opening-line.ensures.line ∙ ap printed (sym w.in-Ok.ensures)
-      | in-Err w ↦ w.line-is ∙ w.from-line.ensures ∙ ap refusal_line w.refusal.ensures ∙ ap printed (sym w.in-Err.ensures)
+      | in-Err w ↦ w.line-is ∙ w.from-line.ensures ∙ ap refusal_line w.from.ensures ∙ ap printed (sym w.in-Err.ensures)
     ] in
     let shown = c.bytes.ensures.value ∙ line in
     record {
