@@ -27,6 +27,3 @@ searched_more ls rest before x r s e =
       front = ap (λ z. before ++ z) tail ∙ whole;
       behind = ap (λ z. best (length before + 1) (map view z)) tail ∙ ap (λ m. longer (view x) m (best (m + 1) (map view back))) n ∙ ap (longer (view x) (length rest)) s.behind;
     }
-
-pub searched_all : (ls rest : List code.Line) (r : ℕ × ℕ) → length rest ≡ 0 → Searched ls rest r → r ≡ best 1 (map view ls)
-searched_all ls rest r e s = sym s.behind ∙ ap (λ n. best (n + 1) (map view (drop n ls))) e

@@ -1,5 +1,5 @@
 use Rattle.std.proofs.Common.{sym, subst}
-use Rattle.order_table.proofs.Best.{Searched, searched_none, searched_more, searched_all}
+use Rattle.order_table.proofs.Best.{Searched, searched_none, searched_more}
 use Rattle.order_table.proofs.finding.longest_of.Goals as goal
 
 pub loop-line-init : goal.loop-line-init
@@ -13,8 +13,3 @@ loop-line-preserved c =
           (searched_more c.args.lines.now c.loop-line.rest.now c.in-Some.before.now c.in-Some.line.now _ searched c.in-Some.ensures.cases.0),
       longest.hours,
     )
-
-pub returns : goal.returns
-returns c =
-    let (searched, hours) = c.loop-line.invariant in
-    record { hours = hours; value = searched_all c.args.lines.now c.loop-line.rest.now _ c.in_default.ensures.cases searched }

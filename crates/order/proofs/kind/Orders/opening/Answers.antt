@@ -1,12 +1,9 @@
-use Rattle.std.proofs.Common.{◌≡◌, ◌+◌, ◌*◌, ◌≤◌, map, drop, sym, refl, ap, ◌∙◌, arith}
+use Rattle.std.proofs.Common.{◌≡◌, ◌+◌, ◌*◌, ◌≤◌, map, drop, sym, ap, ◌∙◌, arith}
 use Rattle.timetable.specs.Hours.{opens_at, next}
 use Rattle.order.specs.Orders.{apply, applied, opening}
 use Rattle.order.specs.Views.{view}
 use Rattle.order.proofs.Openings.{in_range, apply_open, apply_latest, applied_more, applied_all}
 use Rattle.order.proofs.kind.Orders.opening.Goals as goal
-
-pub loop-order-init : goal.loop-order-init
-loop-order-init c = (refl, omega arith, c.wait.ensures.least.opens)
 
 pub loop-order-preserved : goal.loop-order-preserved
 loop-order-preserved c =
@@ -25,18 +22,13 @@ loop-order-preserved c =
       ap (opens_at table) after ∙ apply_open table ever before (view o),
     )
 
-pub returns : goal.returns
+pub returns-clause-value : goal.returns-clause-value
 unfolding opening
-returns c =
+returns-clause-value c =
     let table = c.args.timetable.now.bytes in
     let os = c.as_slice-orders.result.now in
     let start : c.from-from.result ≡ c.args.base.hour = c.from-from.ensures ∙ c.hour.ensures.value in
-    record {
-      value = sym (applied_all table c.loop-order.hour os c.loop-order.order-index c.loop-order-test.false)
-          ∙ c.loop-order.invariant.0
-          ∙ ap (λ h. applied table h (map view os)) (c.wait.ensures.value ∙ ap (next table) start)
-          ∙ ap (applied table (next table c.args.base.hour)) c.as_slice-orders.ensures.value;
-      open_hour = c.loop-order.invariant.2;
-      bound = omega (arith, c.as_slice-orders.ensures.few);
-      sharp = omega (arith, c.as_slice-orders.ensures.few);
-    }
+    sym (applied_all table c.loop-order.hour os c.loop-order.order-index c.loop-order-test.false)
+    ∙ c.loop-order.invariant.0
+    ∙ ap (λ h. applied table h (map view os)) (c.wait.ensures.value ∙ ap (next table) start)
+    ∙ ap (applied table (next table c.args.base.hour)) c.as_slice-orders.ensures.value
