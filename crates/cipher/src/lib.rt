@@ -13,11 +13,9 @@ use words::Block;
 
 mod bytes;
 mod direction;
-mod initial;
 
 pub use bytes::{decrypt_bytes, encrypt_bytes};
 pub use direction::{Decrypt, Direction, Encrypt};
-pub use initial::initial_block;
 
 pub trait Cipher {
     ghost meaning: { Self → Meaning };

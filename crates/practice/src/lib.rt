@@ -5,7 +5,7 @@
 ghost use Rattle.practice.specs.Practice.{practice};
 ghost use Rattle.practice.specs.Laws;
 
-use cipher::{Cipher, initial_block};
+use cipher::Cipher;
 use faults::CipherFault;
 use words::Block;
 
@@ -23,7 +23,7 @@ impl Cipher for Practice {
     }
 
     fn initial(&self) -> Block {
-        initial_block([1, 2])
+        Block::of(&[1, 2]).unwrap()
     }
 
     fn encrypt(&self, key: &[u32; 16], block: &mut [u32]) -> Result<(), CipherFault> {

@@ -9,7 +9,7 @@ ghost use Rattle.shacal1.specs.Shacal1.{fresh, Enc, Dec, shacal1};
 ghost use Rattle.shacal1.specs.Phases.{row};
 ghost use Rattle.shacal1.specs.Laws;
 
-use cipher::{Cipher, initial_block};
+use cipher::Cipher;
 use faults::CipherFault;
 use steps::{First, Fourth, Second, State, Third, backward, forward};
 use words::Block;
@@ -78,13 +78,14 @@ impl Cipher for Shacal1 {
     }
 
     fn initial(&self) -> Block {
-        initial_block([
+        Block::of(&[
             0x6745_2301,
             0xEFCD_AB89,
             0x98BA_DCFE,
             0x1032_5476,
             0xC3D2_E1F0,
         ])
+        .unwrap()
     }
 
     // Not one form with a closure: its contract would be longer than the three lines that these two share.

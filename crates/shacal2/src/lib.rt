@@ -8,7 +8,7 @@ ghost use Rattle.shacal2.specs.Shacal2.{Enc, Dec, shacal2};
 ghost use Rattle.shacal2.specs.Phases.{row};
 ghost use Rattle.shacal2.specs.Laws;
 
-use cipher::{Cipher, initial_block};
+use cipher::Cipher;
 use faults::CipherFault;
 use schedule::{K, renew, renewed};
 use steps::{State, backward, forward};
@@ -69,7 +69,7 @@ impl Cipher for Shacal2 {
     }
 
     fn initial(&self) -> Block {
-        initial_block([
+        Block::of(&[
             0x6A09_E667,
             0xBB67_AE85,
             0x3C6E_F372,
@@ -79,6 +79,7 @@ impl Cipher for Shacal2 {
             0x1F83_D9AB,
             0x5BE0_CD19,
         ])
+        .unwrap()
     }
 
     // Not one form with a closure: its contract would be longer than the three lines that these two share.
