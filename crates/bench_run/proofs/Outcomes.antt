@@ -6,6 +6,9 @@ use Rattle.faults.specs.declared.grounds.SheetFault.{SheetFault}
 use Rattle.faults.specs.declared.grounds.BenchFault.TheVariants.{Mark, Cipher, Sheet}
 use Rattle.faults.specs.declared.grounds.CipherFault.TheVariants.{Block}
 use Rattle.sheet.specs.Reading.{sheet_fault}
+use Rattle.bench_io.specs.declared.mark.Mark as mark
+use Rattle.bench_io.specs.Marks.{mark_of, register_length}
+use Rattle.bench_io.proofs.ByMark.{by_mark}
 use Rattle.bench_run.specs.Bench.{Outcome, opens, fails, register_bytes, sheet_opening, read_sheet, read_register, outcome}
 
 pub no_input : (input : List ℕ) → length input < 1 → outcome input ≡ fails Mark
@@ -17,6 +20,10 @@ pub no_mark : (input : List ℕ) → 1 ≤ length input → register_bytes (get_
 unfolding outcome
 no_mark [] h e = refl
 no_mark (mark ∷ rest) h e = ap (λ (o : Option ℕ). elim o as (λ x. Outcome) [ none ↦ fails Mark | some n ↦ read_register n rest ]) e
+
+-- the register that goes with a mark
+pub registered : (b n : ℕ) (m : mark.Mark) → mark_of b ≡ some m → n ≡ register_length m → register_bytes b ≡ some n
+registered b n m e long = by_mark register_length b (some m) e ∙ ap some (sym long)
 
 marked : (input : List ℕ) (n : ℕ) → 1 ≤ length input → register_bytes (get_or input 0 0) ≡ some n → outcome input ≡ read_register n (drop 1 input)
 unfolding outcome

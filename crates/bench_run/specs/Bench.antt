@@ -7,7 +7,7 @@ use Rattle.faults.specs.declared.grounds.BenchFault.TheVariants.{Mark, Cipher, S
 use Rattle.faults.specs.declared.grounds.CipherFault.TheVariants.{Block}
 use Rattle.order.specs.Orders.{opening}
 use Rattle.sheet.specs.Reading.{base, table, orders, sheet_fault}
-use Rattle.bench_run.specs.Lines.{refusal_line, opening_line}
+use Rattle.bench_io.specs.Lines.{refusal_line, opening_line}
 
 -- how many bytes the start register has behind a mark: '1' is SHACAL-1, '2' SHACAL-2, 'P' the practice cipher
 abbrev pub register_bytes : ℕ → Option ℕ

@@ -1,2 +1,1 @@
 pub mod Bench
-pub mod Lines

@@ -1,7 +1,6 @@
 // The bench as one call: all the bytes that it prints, from the bytes that it reads.
 #![tactic(auto)]
 
-mod lines;
 mod load;
 mod run;
 

@@ -11,8 +11,7 @@ use Rattle.order.specs.Orders.{Order}
 use Rattle.order_table.specs.Lines.{Line, orders}
 use Rattle.hash.specs.Digests.{digest}
 use Rattle.sheet.specs.Sheets as sheets
-use Rattle.sheet.proofs.Written.{length_sheet}
-use Rattle.ledger.specs.Ledgers.{Ledger, register, code, opening, sheet, seal}
+use Rattle.ledger.specs.Ledgers.{Ledger, register, code, opening, sheet}
 use Rattle.ledger.specs.Told.{tells}
 
 module _ (m : Meaning) (name : List ℕ) (base : ℕ) (table r : List ℕ) (ls : List Line) where
@@ -24,19 +23,11 @@ module _ (m : Meaning) (name : List ℕ) (base : ℕ) (table r : List ℕ) (ls :
   unfolding sheet tells
   sheet_is os e = ap (sheets.sheet name base table) e
 
-  pub seal_is : (os : List Order) → os ≡ orders ls → digest m (sheets.sheet name base table os) ≡ seal m (tells m name base table r ls)
-  unfolding seal
-  seal_is os e = ap (digest m) (sheet_is os e)
-
 pub code_is : (m : Meaning) (l : Ledger) (r : List ℕ) → register m l ≡ r → get_or (digest m (bytes r)) 0 0 % 1000000 ≡ code m l
 unfolding code
 code_is m l r e = ap (λ x. get_or (digest m (bytes x)) 0 0 % 1000000) (sym e)
 
 -- ---- bytes hashed out of a local buffer
-
--- no sheet is longer than 357 bytes
-pub sheet_few : (name : List ℕ) (base : ℕ) (table : List ℕ) (os : List Order) → length name ≡ 8 → length table ≡ 21 → length os ≤ 64 → length (sheets.sheet name base table os) ≤ 357
-sheet_few name base table os n t h = omega (arith, length_sheet name base table os)
 
 -- the front that was written is the answer
 pub front_is : (bs old new : List ℕ) (n : ℕ) → Fills bs old new (Ok n) → take n new ≡ bs

@@ -23,7 +23,7 @@ impl<C: Cipher> Book<C> {
     // A book that nobody has set up.
     pub fn new(cipher: C) -> Book<C>
         ensures same { result.cipher ≡ cipher }
-        ensures blank { told (C.Cipher.meaning cipher) result ≡ blank (C.Cipher.meaning cipher) }
+        ensures blank { told (C.meaning cipher) result ≡ blank (C.meaning cipher) }
     {
         let Ok(base) = BaseHour::new(0) else {
             unreachable()
@@ -46,7 +46,7 @@ impl<C: Cipher> Book<C> {
         timetable: [u8; 21],
         start: &[u32],
     ) -> Result<(), BookFault>
-        ensures { Does C.Cipher.meaning (set_up (record { name = name; base = base; table = timetable; start = start.now })) self.old self.new (set result) }
+        ensures { Does C.meaning (set_up (record { name = name; base = base; table = timetable; start = start.now })) self.old self.new (set result) }
     {
         if start.len() != self.cipher.width() {
             return Err(BookFault::Cipher(CipherFault::Block));
@@ -65,7 +65,7 @@ impl<C: Cipher> Book<C> {
 
     // Enters an order, and answers its number and the new opening hour.
     pub fn enter(&mut self, letter: char, amount: u32) -> Result<(usize, u32), BookFault>
-        ensures { Does C.Cipher.meaning (enter letter amount) self.old self.new (entered result) }
+        ensures { Does C.meaning (enter letter amount) self.old self.new (entered result) }
     {
         let order = Order::new(letter, amount)?;
         let number = self.table.enter(order)?;
@@ -76,7 +76,7 @@ impl<C: Cipher> Book<C> {
     // Undoes the order of a number, counted from 1, and answers the opening hour. The register is turned back by the
     // orders in force behind it, the newest first, then by the order itself, and on again by those behind it.
     pub fn undo(&mut self, number: usize) -> Result<u32, BookFault>
-        ensures { Does C.Cipher.meaning (undo number) self.old self.new (undone result) }
+        ensures { Does C.meaning (undo number) self.old self.new (undone result) }
     {
         let (order, later) = self.table.undo(number)?;
         turn_back(
@@ -98,8 +98,8 @@ impl<C: Cipher> Book<C> {
     // Undoes the longest delay in force, of equals the one with the highest number, and answers its number and the
     // opening hour.
     pub fn relieve(&mut self) -> Result<(usize, u32), BookFault>
-        ensures does { Does C.Cipher.meaning relieve self.old self.new (entered result) }
-        ensures picks { Relieves (told (C.Cipher.meaning self.old.cipher) self.old).lines result }
+        ensures does { Does C.meaning relieve self.old self.new (entered result) }
+        ensures picks { Relieves (told (C.meaning self.old.cipher) self.old).lines result }
     {
         let Some(number) = self.table.longest() else {
             return Err(BookFault::NoDelay);

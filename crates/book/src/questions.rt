@@ -4,11 +4,12 @@ ghost use Rattle.words.specs.Buffer.{Fills};
 ghost use Rattle.ledger.specs.Ledgers.{Sound, opening, register, code, sheet, seal};
 ghost use Rattle.book.specs.Told.{told};
 
-use crate::showing::{code_of, known, show_register, show_seal};
+use crate::showing::{digest, known};
 use crate::state::Book;
 use cipher::Cipher;
 use faults::BufferFault;
 use sheet::write;
+use words::put_words;
 
 impl<C: Cipher> Book<C> {
     // The cipher by which the book turns its register and seals.
@@ -20,7 +21,7 @@ impl<C: Cipher> Book<C> {
 
     // The hour at which the lock opens.
     pub fn opening(&self) -> u32
-        ensures value { result ≡ opening (told (C.Cipher.meaning self.now.cipher) self.now) }
+        ensures value { result ≡ opening (told (C.meaning self.now.cipher) self.now) }
         ensures bound { result ≤ 1056935 }
     {
         self.table.in_force().opening(&self.timetable, self.base)
@@ -28,44 +29,34 @@ impl<C: Cipher> Book<C> {
 
     // Writes the register to the front of a buffer, and answers how many bytes it is.
     pub fn register(&self, out: &mut [u8]) -> Result<usize, BufferFault>
-        ensures fills { Fills (bytes_of (register (C.Cipher.meaning self.now.cipher) (told (C.Cipher.meaning self.now.cipher) self.now))) out.old out.new result }
-        ensures wide { length (register (C.Cipher.meaning self.now.cipher) (told (C.Cipher.meaning self.now.cipher) self.now)) ≡ (C.Cipher.meaning self.now.cipher).width }
+        ensures fills { Fills (bytes_of (register (C.meaning self.now.cipher) (told (C.meaning self.now.cipher) self.now))) out.old out.new result }
+        ensures wide { length (register (C.meaning self.now.cipher) (told (C.meaning self.now.cipher) self.now)) ≡ (C.meaning self.now.cipher).width }
     {
-        known(
-            &self.cipher,
-            &self.name,
-            self.timetable.bytes(),
-            &self.register,
-        );
-        show_register(&self.cipher, &self.register, out)
+        known(&self.cipher, &self.name, &self.register);
+        let width = self.cipher.width();
+        put_words(&self.register[..width], out)
     }
 
     // The code, a number of at most six figures.
     pub fn code(&self) -> u32
-        ensures value { result ≡ code (C.Cipher.meaning self.now.cipher) (told (C.Cipher.meaning self.now.cipher) self.now) }
+        ensures value { result ≡ code (C.meaning self.now.cipher) (told (C.meaning self.now.cipher) self.now) }
         ensures bound { result < 1000000 }
     {
-        known(
-            &self.cipher,
-            &self.name,
-            self.timetable.bytes(),
-            &self.register,
-        );
-        code_of(&self.cipher, &self.register)
+        let mut bytes = [0u8; 32];
+        let Ok(n) = self.register(&mut bytes) else {
+            // a cipher has at most eight words
+            unreachable()
+        };
+        digest(&self.cipher, &bytes[..n]).eight()[0] % 1_000_000
     }
 
     // Writes the sheet of the orders in force to the front of a buffer, and answers its length. What the sheet of every
     // book is made of is said here.
     pub fn sheet(&self, out: &mut [u8]) -> Result<usize, BufferFault>
-        ensures fills { Fills (sheet (told (C.Cipher.meaning self.now.cipher) self.now)) out.old out.new result }
-        ensures sound { Sound (C.Cipher.meaning self.now.cipher) (told (C.Cipher.meaning self.now.cipher) self.now) }
+        ensures fills { Fills (sheet (told (C.meaning self.now.cipher) self.now)) out.old out.new result }
+        ensures sound { Sound (C.meaning self.now.cipher) (told (C.meaning self.now.cipher) self.now) }
     {
-        known(
-            &self.cipher,
-            &self.name,
-            self.timetable.bytes(),
-            &self.register,
-        );
+        known(&self.cipher, &self.name, &self.register);
         write(
             &self.name,
             self.base,
@@ -77,16 +68,15 @@ impl<C: Cipher> Book<C> {
 
     // Writes the seal to the front of a buffer, and answers how many bytes it is.
     pub fn seal(&self, out: &mut [u8]) -> Result<usize, BufferFault>
-        ensures fills { Fills (bytes_of (seal (C.Cipher.meaning self.now.cipher) (told (C.Cipher.meaning self.now.cipher) self.now))) out.old out.new result }
-        ensures wide { length (seal (C.Cipher.meaning self.now.cipher) (told (C.Cipher.meaning self.now.cipher) self.now)) ≡ (C.Cipher.meaning self.now.cipher).width }
+        ensures fills { Fills (bytes_of (seal (C.meaning self.now.cipher) (told (C.meaning self.now.cipher) self.now))) out.old out.new result }
+        ensures wide { length (seal (C.meaning self.now.cipher) (told (C.meaning self.now.cipher) self.now)) ≡ (C.meaning self.now.cipher).width }
     {
-        show_seal(
-            &self.cipher,
-            &self.name,
-            self.base,
-            &self.timetable,
-            &self.table.in_force(),
-            out,
-        )
+        let mut sheet = [0u8; 357];
+        let Ok(n) = self.sheet(&mut sheet) else {
+            // no sheet is longer
+            unreachable()
+        };
+        let seal = digest(&self.cipher, &sheet[..n]);
+        put_words(&seal.eight()[..seal.count()], out)
     }
 }

@@ -9,7 +9,7 @@ mod tests {
     use calls::{Answer, Call, replay};
     use cipher::Cipher;
     use compare::{Verdict, compare};
-    use faults::BufferFault;
+    use faults::{BookFault, BufferFault, Refusal};
     use loading::load;
     use practice::Practice;
     use shacal1::Shacal1;
@@ -29,13 +29,9 @@ mod tests {
     ];
 
     // Buffers, longer than any answer.
-    fn narrow() -> [u8; 33] {
-        [0x55; 33]
-    }
+    const NARROW: [u8; 33] = [0x55; 33];
 
-    fn wide() -> [u8; 358] {
-        [0x55; 358]
-    }
+    const WIDE: [u8; 358] = [0x55; 358];
 
     // A book set up with the start register.
     fn ready<C: Cipher + Drop>(rt: &impl Abort, cipher: C) -> Result<Book<C>, Fail> {
@@ -53,28 +49,28 @@ mod tests {
         Relieve,
     }
 
-    // The number of a refusal, an order's number where it is told, and the opening hour.
-    fn take_step<C: Cipher>(book: &mut Book<C>, step: Step) -> (u8, usize, u32) {
+    // An order's number, where it is told, and the opening hour.
+    type Told = (Option<usize>, u32);
+
+    fn take_step<C: Cipher>(book: &mut Book<C>, step: Step) -> Result<Told, BookFault> {
         match step {
-            Step::Enter(letter, amount) => match book.enter(letter, amount) {
-                Ok((number, hour)) => (0, number, hour),
-                Err(fault) => (fault.refusal().number, 0, 0),
-            },
-            Step::Undo(number) => match book.undo(number) {
-                Ok(hour) => (0, 0, hour),
-                Err(fault) => (fault.refusal().number, 0, 0),
-            },
-            Step::Relieve => match book.relieve() {
-                Ok((number, hour)) => (0, number, hour),
-                Err(fault) => (fault.refusal().number, 0, 0),
-            },
+            Step::Enter(letter, amount) => {
+                let (number, hour) = book.enter(letter, amount)?;
+                Ok((Some(number), hour))
+            }
+            Step::Undo(number) => Ok((None, book.undo(number)?)),
+            Step::Relieve => {
+                let (number, hour) = book.relieve()?;
+                Ok((Some(number), hour))
+            }
         }
     }
 
-    fn all_granted<C: Cipher>(rt: &impl Abort, book: &mut Book<C>, steps: &[Step]) {
+    fn all_granted<C: Cipher>(book: &mut Book<C>, steps: &[Step]) -> Result<(), Fail> {
         for s in steps {
-            assert_eq!(rt; take_step(book, *s).0, 0);
+            take_step(book, *s)?;
         }
+        Ok(())
     }
 
     #[derive(Clone, Copy, PartialEq)]
@@ -91,9 +87,9 @@ mod tests {
         let mut five = Five {
             opening: book.opening(),
             code: book.code(),
-            register: narrow(),
-            sheet: wide(),
-            seal: narrow(),
+            register: NARROW,
+            sheet: WIDE,
+            seal: NARROW,
         };
         book.register(&mut five.register)?;
         book.sheet(&mut five.sheet)?;
@@ -110,7 +106,7 @@ mod tests {
         seal: &[u8],
     ) -> Result<(), Fail> {
         assert_eq!(rt; book.opening(), opening);
-        let mut out = wide();
+        let mut out = WIDE;
         let m = book.register(&mut out)?;
         assert!(rt; m <= 358);
         assert_eq!(rt; &out[..m], register);
@@ -131,7 +127,10 @@ mod tests {
         number: u8,
     ) -> Result<(), Fail> {
         let before = shown(book)?;
-        assert_eq!(rt; take_step(book, step), (number, 0, 0));
+        match take_step(book, step) {
+            Ok(_) => return Err(Fail::new("granted")),
+            Err(fault) => assert_eq!(rt; Refusal::from(fault).number, number),
+        }
         assert!(rt; shown(book)? == before);
         Ok(())
     }
@@ -147,7 +146,7 @@ mod tests {
         let before = shown(book)?;
         match book.set_up(*b"OTHER...", base, timetable, start) {
             Ok(()) => return Err(Fail::new("set up")),
-            Err(fault) => assert_eq!(rt; fault.refusal().number, number),
+            Err(fault) => assert_eq!(rt; Refusal::from(fault).number, number),
         }
         assert!(rt; shown(book)? == before);
         Ok(())
@@ -161,17 +160,29 @@ mod tests {
 
     // Unlike orders, an undo in the middle, two equal delays of which the later is relieved, an order behind undone ones,
     // and one more undo in the middle. The codes after each call; register and seal after the first undo and at the end.
-    const STEPS: [(Step, usize, u32); 9] = [
-        (Step::Enter('D', 100), 1, 108),
-        (Step::Enter('N', 120), 2, 176),
-        (Step::Enter('D', 10), 3, 200),
-        (Step::Enter('D', 100), 4, 344),
-        (Step::Enter('N', 104), 5, 344),
-        (Step::Undo(2), 0, 276),
-        (Step::Relieve, 4, 176),
-        (Step::Enter('D', 720), 6, 896),
-        (Step::Undo(3), 0, 848),
+    const STEPS: [(Step, Told); 9] = [
+        (Step::Enter('D', 100), (Some(1), 108)),
+        (Step::Enter('N', 120), (Some(2), 176)),
+        (Step::Enter('D', 10), (Some(3), 200)),
+        (Step::Enter('D', 100), (Some(4), 344)),
+        (Step::Enter('N', 104), (Some(5), 344)),
+        (Step::Undo(2), (None, 276)),
+        (Step::Relieve, (Some(4), 176)),
+        (Step::Enter('D', 720), (Some(6), 896)),
+        (Step::Undo(3), (None, 848)),
     ];
+
+    fn take_steps<C: Cipher>(
+        rt: &impl Abort,
+        book: &mut Book<C>,
+        steps: &[(Step, Told)],
+        codes: &[u32],
+    ) {
+        for ((step, told), code) in steps.iter().zip(codes) {
+            assert_eq!(rt; take_step(book, *step), Ok(*told));
+            assert_eq!(rt; book.code(), *code);
+        }
+    }
 
     fn follow<C: Cipher + Drop>(
         rt: &impl Abort,
@@ -183,14 +194,9 @@ mod tests {
         end_seal: &[u8],
     ) -> Result<(), Fail> {
         let mut book = ready(rt, cipher)?;
-        for i in 0..9 {
-            let (step, number, hour) = STEPS[i];
-            assert_eq!(rt; take_step(&mut book, step), (0, number, hour));
-            assert_eq!(rt; book.code(), codes[i]);
-            if i == 5 {
-                shows(rt, &book, hour, middle_register, FOUR, middle_seal)?;
-            }
-        }
+        take_steps(rt, &mut book, &STEPS[..6], &codes[..6]);
+        shows(rt, &book, 276, middle_register, FOUR, middle_seal)?;
+        take_steps(rt, &mut book, &STEPS[6..], &codes[6..]);
         shows(rt, &book, 848, end_register, THREE, end_seal)
     }
 
@@ -247,9 +253,9 @@ mod tests {
             refuses(rt, book, step, number)?;
         }
         // with no delay in force
-        assert_eq!(rt; take_step(book, Step::Relieve), (0, 1, 32));
-        assert_eq!(rt; take_step(book, Step::Relieve), (0, 3, 8));
-        assert_eq!(rt; take_step(book, Step::Enter('N', 120)), (0, 4, 176));
+        assert_eq!(rt; take_step(book, Step::Relieve), Ok((Some(1), 32)));
+        assert_eq!(rt; take_step(book, Step::Relieve), Ok((Some(3), 8)));
+        assert_eq!(rt; take_step(book, Step::Enter('N', 120)), Ok((Some(4), 176)));
         refuses(rt, book, Step::Relieve, 36)
     }
 
@@ -263,34 +269,19 @@ mod tests {
     }
 
     // A buffer that is a byte too short is left as it was, and one that is just long enough is filled.
-    fn sheet_room<C: Cipher>(rt: &impl Abort, book: &Book<C>, size: usize) {
+    fn wants_room<F: Fn(&mut [u8]) -> Result<usize, BufferFault>>(
+        rt: &impl Abort,
+        question: F,
+        size: usize,
+    )
+        requires { F.IsAlwaysCallable question }
+    {
         assert!(rt; size >= 1 && size <= 358);
-        let mut short = wide();
-        assert_eq!(rt; book.sheet(&mut short[..size - 1]), Err(BufferFault::Short));
-        assert_eq!(rt; short, wide());
-        let mut out = wide();
-        assert_eq!(rt; book.sheet(&mut out[..size]), Ok(size));
-    }
-
-    fn register_room<C: Cipher>(rt: &impl Abort, book: &Book<C>, size: usize) {
-        assert!(rt; size >= 1 && size <= 32);
-        let mut short = narrow();
-        assert_eq!(rt;
-            book.register(&mut short[..size - 1]),
-            Err(BufferFault::Short)
-        );
-        assert_eq!(rt; short, narrow());
-        let mut out = narrow();
-        assert_eq!(rt; book.register(&mut out[..size]), Ok(size));
-    }
-
-    fn seal_room<C: Cipher>(rt: &impl Abort, book: &Book<C>, size: usize) {
-        assert!(rt; size >= 1 && size <= 32);
-        let mut short = narrow();
-        assert_eq!(rt; book.seal(&mut short[..size - 1]), Err(BufferFault::Short));
-        assert_eq!(rt; short, narrow());
-        let mut out = narrow();
-        assert_eq!(rt; book.seal(&mut out[..size]), Ok(size));
+        let mut short = WIDE;
+        assert_eq!(rt; question(&mut short[..size - 1]), Err(BufferFault::Short));
+        assert_eq!(rt; short, WIDE);
+        let mut out = WIDE;
+        assert_eq!(rt; question(&mut out[..size]), Ok(size));
     }
 
     fn all_refused<C: Cipher + Drop>(rt: &impl Abort, cipher: C, size: usize) -> Result<(), Fail> {
@@ -301,11 +292,11 @@ mod tests {
             Step::Enter('D', 10),
             Step::Undo(2),
         ];
-        all_granted(rt, &mut book, &steps);
+        all_granted(&mut book, &steps)?;
         set_ups_refused(rt, &mut book)?;
-        sheet_room(rt, &book, 47);
-        register_room(rt, &book, size);
-        seal_room(rt, &book, size);
+        wants_room(rt, |out| book.sheet(out), 47);
+        wants_room(rt, |out| book.register(out), size);
+        wants_room(rt, |out| book.seal(out), size);
         steps_refused(rt, &mut book)
     }
 
@@ -323,16 +314,19 @@ mod tests {
         for amount in 1..64 {
             book.enter('D', amount)?;
         }
-        assert_eq!(rt; take_step(&mut book, Step::Enter('D', 64)), (0, 64, 3104));
+        assert_eq!(rt;
+            take_step(&mut book, Step::Enter('D', 64)),
+            Ok((Some(64), 3104))
+        );
         assert_eq!(rt; book.code(), 526457);
-        let mut register = narrow();
+        let mut register = NARROW;
         let m = book.register(&mut register)?;
         assert!(rt; m <= 33);
         assert_eq!(rt;
             &register[..m],
             b"\x02\xc2\x1d\x2b\x1f\xed\x6d\x34\x1f\x83\x90\xa8\x24\xf6\x4f\xa8\x8e\x0c\x76\xa8\xf7\xa5\x7e\xcd\xee\x1f\x30\x2b\xa4\x9c\xaa\xa3".as_slice()
         );
-        let mut seal = narrow();
+        let mut seal = NARROW;
         let n = book.seal(&mut seal)?;
         assert!(rt; n <= 33);
         assert_eq!(rt;
@@ -361,22 +355,13 @@ mod tests {
         refuses_set_up(&rt, &mut book, 8, OFFICE, &START[3..], 32)
     }
 
-    fn told(verdict: Verdict) -> (u8, usize, usize) {
-        match verdict {
-            Verdict::SealsDiffer => (0, 0, 0),
-            Verdict::SameSheet => (1, 0, 0),
-            Verdict::Collision(i, j) => (2, i, j),
-            Verdict::CiphersDiffer => (3, 0, 0),
-        }
-    }
-
     // The same orders in force by different ways; then one undone and entered again, so that the sequence alone differs.
     fn two_ways<C: Cipher + Drop, D: Cipher + Drop>(
         rt: &impl Abort,
         one: C,
         other: D,
         code: u32,
-        unlike: (u8, usize, usize),
+        unlike: Verdict,
     ) -> Result<(), Fail> {
         let mut a = ready(rt, one)?;
         let direct = [
@@ -384,7 +369,7 @@ mod tests {
             Step::Enter('N', 120),
             Step::Enter('D', 10),
         ];
-        all_granted(rt, &mut a, &direct);
+        all_granted(&mut a, &direct)?;
         let mut b = ready(rt, other)?;
         let winding = [
             Step::Enter('N', 5),
@@ -395,26 +380,29 @@ mod tests {
             Step::Enter('D', 10),
             Step::Relieve,
         ];
-        all_granted(rt, &mut b, &winding);
+        all_granted(&mut b, &winding)?;
         assert!(rt; shown(&a)? == shown(&b)?);
-        assert_eq!(rt; told(compare(&a, &b)), (1, 0, 0));
-        assert_eq!(rt; take_step(&mut a, Step::Undo(1)), (0, 0, 200));
-        assert_eq!(rt; take_step(&mut a, Step::Enter('D', 100)), (0, 4, 344));
+        assert_eq!(rt; compare(&a, &b), Verdict::SameSheet);
+        assert_eq!(rt; take_step(&mut a, Step::Undo(1)), Ok((None, 200)));
+        assert_eq!(rt;
+            take_step(&mut a, Step::Enter('D', 100)),
+            Ok((Some(4), 344))
+        );
         assert_eq!(rt; a.code(), code);
         assert!(rt; shown(&a)? != shown(&b)?);
-        assert_eq!(rt; told(compare(&a, &b)), unlike);
+        assert_eq!(rt; compare(&a, &b), unlike);
         Ok(())
     }
 
     #[test]
     fn two_books(rt: HostRuntime) -> Result<(), Fail> {
-        two_ways(&rt, Shacal1, Shacal1, 463616, (0, 0, 0))?;
-        two_ways(&rt, Shacal2, Shacal2, 595296, (0, 0, 0))?;
+        two_ways(&rt, Shacal1, Shacal1, 463616, Verdict::SealsDiffer)?;
+        two_ways(&rt, Shacal2, Shacal2, 595296, Verdict::SealsDiffer)?;
         // a digest over the practice cipher passes over letters and amounts
-        two_ways(&rt, Practice, Practice, 412969, (2, 0, 0))?;
+        two_ways(&rt, Practice, Practice, 412969, Verdict::Collision(0, 0))?;
         assert_eq!(rt;
-            told(compare(&ready(&rt, Shacal1)?, &ready(&rt, Shacal2)?)),
-            (0, 0, 0)
+            compare(&ready(&rt, Shacal1)?, &ready(&rt, Shacal2)?),
+            Verdict::SealsDiffer
         );
         Ok(())
     }
@@ -428,44 +416,44 @@ mod tests {
             a.enter('D', 1)?;
             b.enter('D', if i == 5 { 2 } else { 1 })?;
         }
-        assert_eq!(rt; told(compare(&a, &b)), (2, 1, 1));
+        assert_eq!(rt; compare(&a, &b), Verdict::Collision(1, 1));
         Ok(())
     }
 
-    // The number of a refusal, then an order's number or how many bytes, then an hour or the code.
-    fn plain(answer: Answer) -> (u8, usize, u32) {
+    // An order's number or how many bytes, then an hour or the code; or the number of a refusal.
+    fn plain(answer: Result<Answer, BookFault>) -> Result<(usize, u32), u8> {
         match answer {
-            Answer::Done => (0, 0, 0),
-            Answer::Number(number, hour) => (0, number, hour),
-            Answer::Hour(hour) => (0, 0, hour),
-            Answer::Code(code) => (0, 0, code),
-            Answer::Bytes(bytes) => (0, bytes.as_slice().len(), 0),
-            Answer::Refused(fault) => (fault.refusal().number, 0, 0),
+            Ok(Answer::Done) => Ok((0, 0)),
+            Ok(Answer::Number(number, hour)) => Ok((number, hour)),
+            Ok(Answer::Hour(hour)) => Ok((0, hour)),
+            Ok(Answer::Code(code)) => Ok((0, code)),
+            Ok(Answer::Bytes(bytes)) => Ok((bytes.as_slice().len(), 0)),
+            Err(fault) => Err(Refusal::from(fault).number),
         }
     }
 
-    const ANSWERS: [(u8, usize, u32); 14] = [
-        (17, 0, 0),
-        (0, 0, 0),
-        (0, 1, 108),
-        (0, 2, 176),
-        (0, 3, 200),
-        (0, 4, 344),
-        (0, 5, 344),
-        (0, 0, 276),
-        (35, 0, 0),
-        (0, 0, 501488),
-        (0, 4, 176),
-        (13, 0, 0),
-        (0, 52, 0),
-        (0, 20, 0),
+    const ANSWERS: [Result<(usize, u32), u8>; 14] = [
+        Err(17),
+        Ok((0, 0)),
+        Ok((1, 108)),
+        Ok((2, 176)),
+        Ok((3, 200)),
+        Ok((4, 344)),
+        Ok((5, 344)),
+        Ok((0, 276)),
+        Err(35),
+        Ok((0, 501488)),
+        Ok((4, 176)),
+        Err(13),
+        Ok((52, 0)),
+        Ok((20, 0)),
     ];
 
     fn check_replay(rt: &impl Abort, heap: Global, calls: &[Call<'_>]) -> Result<(), Fail> {
         let (book, answers) = replay(Shacal1, heap, calls)?;
         assert_eq!(rt; answers.len(), 14);
-        for i in 0..answers.len().min(14) {
-            assert_eq!(rt; plain(answers[i]), ANSWERS[i]);
+        for (answer, want) in answers.iter().zip(&ANSWERS) {
+            assert_eq!(rt; plain(*answer), *want);
         }
         assert_eq!(rt; book.opening(), 176);
         assert_eq!(rt; book.code(), 765852);
@@ -496,10 +484,11 @@ mod tests {
     const START_BYTES: &[u8; 20] =
         b"\x01\x23\x45\x67\x02\x46\x8a\xce\x03\x69\xd0\x35\x04\x8d\x15\x9c\x05\xb0\x5b\x03";
 
-    fn load_fault(register: &[u8], sheet: &[u8]) -> u8 {
+    // The number of the refusal, if there is one.
+    fn load_refusal(register: &[u8], sheet: &[u8]) -> Option<u8> {
         match load(Shacal1, register, sheet) {
-            Ok(_) => 0,
-            Err(fault) => fault.refusal().number,
+            Ok(_) => None,
+            Err(fault) => Some(Refusal::from(fault).number),
         }
     }
 
@@ -509,13 +498,13 @@ mod tests {
         let book = load(Shacal1, START_BYTES, THREE)?;
         assert_eq!(rt; book.opening(), 848);
         assert_eq!(rt; book.code(), 920480);
-        let mut sheet = wide();
+        let mut sheet = WIDE;
         let n = book.sheet(&mut sheet)?;
         assert!(rt; n <= 358);
         assert_eq!(rt; &sheet[..n], THREE.as_slice());
-        assert_eq!(rt; load_fault(&START_BYTES[..19], &THREE[..51]), 12);
-        assert_eq!(rt; load_fault(START_BYTES, &THREE[..51]), 18);
-        assert_eq!(rt; load_fault(START_BYTES, START_BYTES), 18);
+        assert_eq!(rt; load_refusal(&START_BYTES[..19], &THREE[..51]), Some(12));
+        assert_eq!(rt; load_refusal(START_BYTES, &THREE[..51]), Some(18));
+        assert_eq!(rt; load_refusal(START_BYTES, START_BYTES), Some(18));
         Ok(())
     }
 }

@@ -1,42 +1,22 @@
-ghost use Rattle.std.specs.Prelude.{◌≡◌};
-ghost use Rattle.ledger.specs.Calls.{ask_register, ask_sheet, ask_seal, answer};
-ghost use Rattle.book.specs.Told.{told};
-ghost use Rattle.calls.specs.Runs.{said};
+ghost use Rattle.std.specs.Prelude.{ℕ, ◌≤◌, List, Result, IfOk, length};
+ghost use Rattle.std.specs.Fn.{FnOnceReturnsAtMut};
+ghost use Rattle.faults.specs.declared.grounds.BufferFault.{BufferFault as Fault};
+ghost use Rattle.calls.specs.Runs.{Wrote};
 
 use crate::call::{Answer, Written};
-use book::Book;
-use cipher::Cipher;
-use faults::BookFault;
+use faults::{BookFault, BufferFault};
 
-pub(crate) fn ask_register<C: Cipher>(book: &Book<C>, room: usize) -> Answer
-    ensures { said result ≡ answer (C.Cipher.meaning book.now.cipher) (ask_register room) (told (C.Cipher.meaning book.now.cipher) book.now) }
+// What a question writes to a room of the length offered. No answer needs more than 357 bytes.
+pub(crate) fn ask<F: FnOnce(&mut [u8]) -> Result<usize, BufferFault>>(
+    question: F,
+    room: usize,
+) -> Result<Answer, BookFault>
+    requires callable { F.IsAlwaysCallable question }
+    requires within { (old new : List ℕ) (r : Result ℕ Fault) → FnOnceReturnsAtMut F.FnOnce question old r new → IfOk r (λ n. n ≤ length old) }
+    ensures { Wrote (λ old r new. FnOnceReturnsAtMut F.FnOnce question old r new) room result }
 {
     let mut bytes = Written::empty().bytes;
     let end = room.min(357);
-    match book.register(&mut bytes[..end]) {
-        Ok(count) => Answer::Bytes(Written { bytes, count }),
-        Err(fault) => Answer::Refused(BookFault::Buffer(fault)),
-    }
-}
-
-pub(crate) fn ask_sheet<C: Cipher>(book: &Book<C>, room: usize) -> Answer
-    ensures { said result ≡ answer (C.Cipher.meaning book.now.cipher) (ask_sheet room) (told (C.Cipher.meaning book.now.cipher) book.now) }
-{
-    let mut bytes = Written::empty().bytes;
-    let end = room.min(357);
-    match book.sheet(&mut bytes[..end]) {
-        Ok(count) => Answer::Bytes(Written { bytes, count }),
-        Err(fault) => Answer::Refused(BookFault::Buffer(fault)),
-    }
-}
-
-pub(crate) fn ask_seal<C: Cipher>(book: &Book<C>, room: usize) -> Answer
-    ensures { said result ≡ answer (C.Cipher.meaning book.now.cipher) (ask_seal room) (told (C.Cipher.meaning book.now.cipher) book.now) }
-{
-    let mut bytes = Written::empty().bytes;
-    let end = room.min(357);
-    match book.seal(&mut bytes[..end]) {
-        Ok(count) => Answer::Bytes(Written { bytes, count }),
-        Err(fault) => Answer::Refused(BookFault::Buffer(fault)),
-    }
+    let count = question(&mut bytes[..end])?;
+    Ok(Answer::Bytes(Written { bytes, count }))
 }

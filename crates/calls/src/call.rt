@@ -1,7 +1,5 @@
 ghost use Rattle.std.specs.Prelude.{◌≡◌, ◌≤◌, length};
 
-use faults::BookFault;
-
 // A call on a book. The number behind a question is the length of the buffer offered.
 #[derive(Clone, Copy)]
 pub enum Call<'a> {
@@ -19,7 +17,8 @@ pub enum Call<'a> {
     Seal(usize),
 }
 
-// The bytes that a question wrote, no more than the longest sheet has.
+// The bytes that a question wrote, no more than the longest sheet has. An array with a count, since the kit's vector of
+// fixed room (`arrayvec`) is not `Copy`, which an answer is.
 #[derive(Clone, Copy)]
 pub struct Written {
     pub(crate) bytes: [u8; 357],
@@ -28,6 +27,7 @@ pub struct Written {
     ghost few: { count ≤ 357 },
 }
 
+// What a call that is granted answers.
 #[derive(Clone, Copy)]
 pub enum Answer {
     Done,
@@ -36,5 +36,4 @@ pub enum Answer {
     Hour(u32),
     Code(u32),
     Bytes(Written),
-    Refused(BookFault),
 }

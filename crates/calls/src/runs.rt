@@ -2,40 +2,36 @@ ghost use Rattle.std.specs.Prelude.{◌≡◌, IfOk};
 ghost use Rattle.book.specs.Told.{Does};
 ghost use Rattle.calls.specs.Runs.{asked, said, Ran};
 
-use crate::asking::{ask_register, ask_seal, ask_sheet};
+use crate::asking::ask;
 use crate::call::{Answer, Call};
 use book::Book;
 use cipher::Cipher;
+use faults::BookFault;
 use std::alloc::{AllocError, Global};
 
 // Makes a call on a book.
-pub fn apply<C: Cipher>(book: &mut Book<C>, call: Call<'_>) -> Answer
-    ensures { Does C.Cipher.meaning (asked call.entry) book.old book.new (said result) }
+pub fn apply<C: Cipher>(book: &mut Book<C>, call: Call<'_>) -> Result<Answer, BookFault>
+    ensures { Does C.meaning (asked call.entry) book.old book.new (said result) }
 {
     match call {
-        Call::SetUp(name, base, timetable, start) => match book.set_up(
-            name, base, timetable, start,
-        ) {
-            Ok(()) => Answer::Done,
-            Err(fault) => Answer::Refused(fault),
-        },
-        Call::Enter(letter, amount) => match book.enter(letter, amount) {
-            Ok((number, hour)) => Answer::Number(number, hour),
-            Err(fault) => Answer::Refused(fault),
-        },
-        Call::Undo(number) => match book.undo(number) {
-            Ok(hour) => Answer::Hour(hour),
-            Err(fault) => Answer::Refused(fault),
-        },
-        Call::Relieve => match book.relieve() {
-            Ok((number, hour)) => Answer::Number(number, hour),
-            Err(fault) => Answer::Refused(fault),
-        },
-        Call::Opening => Answer::Hour(book.opening()),
-        Call::Register(room) => ask_register(book, room),
-        Call::Code => Answer::Code(book.code()),
-        Call::Sheet(room) => ask_sheet(book, room),
-        Call::Seal(room) => ask_seal(book, room),
+        Call::SetUp(name, base, timetable, start) => {
+            book.set_up(name, base, timetable, start)?;
+            Ok(Answer::Done)
+        }
+        Call::Enter(letter, amount) => {
+            let (number, hour) = book.enter(letter, amount)?;
+            Ok(Answer::Number(number, hour))
+        }
+        Call::Undo(number) => Ok(Answer::Hour(book.undo(number)?)),
+        Call::Relieve => {
+            let (number, hour) = book.relieve()?;
+            Ok(Answer::Number(number, hour))
+        }
+        Call::Opening => Ok(Answer::Hour(book.opening())),
+        Call::Register(room) => ask(|out| book.register(out), room),
+        Call::Code => Ok(Answer::Code(book.code())),
+        Call::Sheet(room) => ask(|out| book.sheet(out), room),
+        Call::Seal(room) => ask(|out| book.seal(out), room),
     }
 }
 
@@ -45,8 +41,8 @@ pub fn replay<C: Cipher + Drop>(
     cipher: C,
     heap: Global,
     calls: &[Call<'_>],
-) -> Result<(Book<C>, Vec<Answer>), AllocError>
-    ensures { IfOk result (λ p. Ran C.Cipher.meaning cipher calls.now p.0 p.1.items) }
+) -> Result<(Book<C>, Vec<Result<Answer, BookFault>>), AllocError>
+    ensures { IfOk result (λ p. Ran C.meaning cipher calls.now p.0 p.1.items) }
 {
     let mut book = Book::new(cipher);
     let mut out = Vec::new(heap);

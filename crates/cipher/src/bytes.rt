@@ -1,31 +1,22 @@
 // Encryption and decryption of bytes, for every cipher.
-ghost use Rattle.std.specs.Prelude.{◌≡◌, ◌-◌, ◌*◌, ◌≤◌, ◌++◌, length, replicate, if◌then◌else◌, Ok, Err};
-ghost use Rattle.words.specs.Words.{bytes as bytes_of};
+ghost use Rattle.std.specs.Prelude.{◌≡◌, if◌then◌else◌, Ok, Err};
 ghost use Rattle.cipher.specs.Bytes.{key_fits, key_words, byte_told, byte_turned, opened as opened_of};
 
 use crate::Cipher;
+use crate::direction::{Decrypt, Direction, Encrypt};
 use faults::CipherFault;
-use words::{put_words, read_words};
+use words::{padded, put_words, read_words};
 
-// The bytes, and zeros behind them up to 64.
-fn padded(key: &[u8]) -> [u8; 64]
-    requires { length key.now ≤ 64 }
-    ensures { result ≡ key.now ++ replicate (64 - length key.now) 0 }
-{
-    let mut full = [0; 64];
-    full[0..key.len()].copy_from_slice(key);
-    full
-}
-
-// The key's sixteen words. A key under 16 or over 64 bytes is refused.
+// The key's sixteen words, zero bytes behind it up to 64. A key under 16 or over 64 bytes is refused.
 fn read_key(key: &[u8]) -> Result<[u32; 16], CipherFault>
     ensures { result ≡ (if key_fits key.now then Ok (key_words key.now) else Err CipherFault.Key) }
 {
-    if key.len() < 16 || 64 < key.len() {
+    if key.len() < 16 {
         return Err(CipherFault::Key);
     }
+    let full: [u8; 64] = padded(key, 0).ok_or(CipherFault::Key)?;
     let mut words = [0; 16];
-    read_words(&padded(key), &mut words);
+    read_words(&full, &mut words)?;
     Ok(words)
 }
 
@@ -35,66 +26,42 @@ fn open_bytes<C: Cipher>(
     key: &[u8],
     block: &[u8],
 ) -> Result<([u32; 16], [u32; 8]), CipherFault>
-    ensures { result ≡ opened_of (C.Cipher.meaning cipher.now).width key.now block.now }
+    ensures { result ≡ opened_of (C.meaning cipher.now).width key.now block.now }
 {
     let key_words = read_key(key)?;
-    let n = cipher.width();
-    if block.len() != 4 * n {
-        return Err(CipherFault::Block);
-    }
     let mut words = [0; 8];
-    read_words(block, &mut words[0..n]);
+    read_words(block, &mut words[..cipher.width()])?;
     Ok((key_words, words))
 }
 
-// Encrypts the words and writes them over the block, which is as long.
-fn encrypt_into<C: Cipher>(
+// Turns a block of four bytes a word in place, under a key of 16 to 64 bytes.
+fn turn_bytes<D: Direction, C: Cipher>(
     cipher: &C,
-    key: &[u32; 16],
-    words: &mut [u32],
+    key: &[u8],
     block: &mut [u8],
 ) -> Result<(), CipherFault>
-    requires { (length words.old ≡ (C.Cipher.meaning cipher.now).width) × (length block.old ≡ 4 * length words.old) }
-    ensures answer { result ≡ Ok tt }
-    ensures block { block.new ≡ bytes_of ((C.Cipher.meaning cipher.now).enc key.now words.old) }
+    ensures answer { result ≡ byte_told (C.meaning cipher.now).width key.now block.old }
+    ensures block { block.new ≡ byte_turned (C.meaning cipher.now).width (D.way (C.meaning cipher.now)) key.now block.old }
 {
-    let answer = cipher.encrypt(key, words);
+    let (key_words, mut words) = open_bytes(cipher, key, block)?;
+    let words = &mut words[..cipher.width()];
+    let answer = D::turn(cipher, &key_words, words);
     let _ = put_words(words, block);
     answer
 }
 
 // Encrypts a block of four bytes a word in place, under a key of 16 to 64 bytes. A refused block stays as it was.
 pub fn encrypt_bytes<C: Cipher>(cipher: &C, key: &[u8], block: &mut [u8]) -> Result<(), CipherFault>
-    ensures answer { result ≡ byte_told (C.Cipher.meaning cipher.now).width key.now block.old }
-    ensures block { block.new ≡ byte_turned (C.Cipher.meaning cipher.now).width (C.Cipher.meaning cipher.now).enc key.now block.old }
+    ensures answer { result ≡ byte_told (C.meaning cipher.now).width key.now block.old }
+    ensures block { block.new ≡ byte_turned (C.meaning cipher.now).width (C.meaning cipher.now).enc key.now block.old }
 {
-    let (key_words, mut words) = open_bytes(cipher, key, block)?;
-    let n = cipher.width();
-    encrypt_into(cipher, &key_words, &mut words[0..n], block)
-}
-
-// Decrypts the words and writes them over the block, which is as long.
-fn decrypt_into<C: Cipher>(
-    cipher: &C,
-    key: &[u32; 16],
-    words: &mut [u32],
-    block: &mut [u8],
-) -> Result<(), CipherFault>
-    requires { (length words.old ≡ (C.Cipher.meaning cipher.now).width) × (length block.old ≡ 4 * length words.old) }
-    ensures answer { result ≡ Ok tt }
-    ensures block { block.new ≡ bytes_of ((C.Cipher.meaning cipher.now).dec key.now words.old) }
-{
-    let answer = cipher.decrypt(key, words);
-    let _ = put_words(words, block);
-    answer
+    turn_bytes::<Encrypt, C>(cipher, key, block)
 }
 
 // Decrypts a block of four bytes a word in place, under a key of 16 to 64 bytes. A refused block stays as it was.
 pub fn decrypt_bytes<C: Cipher>(cipher: &C, key: &[u8], block: &mut [u8]) -> Result<(), CipherFault>
-    ensures answer { result ≡ byte_told (C.Cipher.meaning cipher.now).width key.now block.old }
-    ensures block { block.new ≡ byte_turned (C.Cipher.meaning cipher.now).width (C.Cipher.meaning cipher.now).dec key.now block.old }
+    ensures answer { result ≡ byte_told (C.meaning cipher.now).width key.now block.old }
+    ensures block { block.new ≡ byte_turned (C.meaning cipher.now).width (C.meaning cipher.now).dec key.now block.old }
 {
-    let (key_words, mut words) = open_bytes(cipher, key, block)?;
-    let n = cipher.width();
-    decrypt_into(cipher, &key_words, &mut words[0..n], block)
+    turn_bytes::<Decrypt, C>(cipher, key, block)
 }

@@ -12,8 +12,12 @@ use faults::CipherFault;
 use words::Block;
 
 mod bytes;
+mod direction;
+mod initial;
 
 pub use bytes::{decrypt_bytes, encrypt_bytes};
+pub use direction::{Decrypt, Direction, Encrypt};
+pub use initial::initial_block;
 
 pub trait Cipher {
     ghost meaning: { Self → Meaning };

@@ -1,8 +1,9 @@
 -- The two statements on two books. Assumes nothing.
-use Rattle.std.proofs.Common.{◌≡◌, ℕ, ◌%◌, ◌^◌, Bool, true, false, List, [], ◌∷◌, get_or, Decides, MatchBool, sym, refl, ap, ◌∙◌, subst, arith}
+use Rattle.std.proofs.Common.{◌≡◌, ℕ, ◌%◌, ◌^◌, ◌<◌, Bool, true, false, List, [], ◌∷◌, length, get_or, Decides, MatchBool, sym, refl, ap, ◌∙◌, subst, arith}
 use Rattle.std.proofs.lemmas.Bool.{false≢true}
 use Rattle.words.specs.Words.{Below, Row, bytes, words}
 use Rattle.words.proofs.Bytes.{bytes_below, word_joined}
+use Rattle.words.proofs.Crossed.{length_bytes}
 use Rattle.cipher.specs.Meaning.{Meaning, Lawful}
 use Rattle.hash.specs.Digests.{digest}
 use Rattle.hash.proofs.Rows.{digest_row}
@@ -14,6 +15,7 @@ use Rattle.sheet.specs.Contents.{Contents}
 use Rattle.sheet.specs.Reading as reading
 use Rattle.sheet.proofs.Written.{accepted, holds}
 use Rattle.ledger.specs.Ledgers.{Ledger, Sound, in_force, register, code, opening, sheet, seal}
+use Rattle.ledger.proofs.Answering.{sheet_most}
 use Rattle.compare.specs.Alike.{NothingLeftBehind, SharedSealCollides}
 use Rattle.compare.specs.Verdicts.{collision, Judges, Compares}
 use Rattle.compare.specs.declared.verdict.Verdict.{Verdict}
@@ -87,6 +89,14 @@ pub bytes_one : (vs ws : List ℕ) → Below (2 ^ 32) vs → Below (2 ^ 32) ws �
 bytes_one vs ws h k e = sym (words_back vs h) ∙ ap words e ∙ words_back ws k
 
 -- ---- what the code compared and traced
+
+-- a seal is at most eight words
+pub seal_fits : (m : Meaning) → Lawful m → (l : Ledger) → length (seal m l) ≡ m.width → 32 < length (bytes (seal m l)) → ⊥
+seal_fits m law l wide over = omega (arith, law.most, wide, over, length_bytes (seal m l))
+
+-- and a sheet 357 bytes
+pub sheet_fits : (m : Meaning) (l : Ledger) → Sound m l → 357 < length (sheet l) → ⊥
+sheet_fits m l s over = omega (arith, over, sheet_most m l s)
 
 pub decided : (r : Bool) (xs ys us vs : List ℕ) → xs ≡ us → ys ≡ vs → Decides r (xs ≡ ys) → MatchBool r (us ≡ vs) (us ≡ vs → ⊥)
 decided true xs ys us vs p q d = sym p ∙ d.0 refl ∙ q

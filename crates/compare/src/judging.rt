@@ -11,43 +11,27 @@ use cipher::Cipher;
 use faults::TraceFault;
 use trace::trace;
 
-// Writes a book's sheet to the front of a buffer that is long enough for every one, and answers its length.
-fn read_sheet<C: Cipher>(book: &Book<C>, out: &mut [u8; 357]) -> usize
-    ensures value { take result out.new ≡ sheet_of (told (C.Cipher.meaning book.now.cipher) book.now) }
-    ensures sound { Sound (C.Cipher.meaning book.now.cipher) (told (C.Cipher.meaning book.now.cipher) book.now) }
-    ensures bound { result ≤ 357 }
-{
-    match book.sheet(out) {
-        Ok(n) => n,
-        Err(_) => unreachable(),
-    }
-}
-
-// The same of a book's seal.
-fn read_seal<C: Cipher>(book: &Book<C>, out: &mut [u8; 32]) -> usize
-    ensures value { take result out.new ≡ bytes_of (seal_of (C.Cipher.meaning book.now.cipher) (told (C.Cipher.meaning book.now.cipher) book.now)) }
-    ensures bound { result ≤ 32 }
-{
-    match book.seal(out) {
-        Ok(n) => n,
-        Err(_) => unreachable(),
-    }
-}
-
+// The seals of two books are the same bytes.
 fn same_seal<C: Cipher, D: Cipher>(a: &Book<C>, b: &Book<D>) -> bool
-    ensures { MatchBool result (bytes_of (seal_of (C.Cipher.meaning a.now.cipher) (told (C.Cipher.meaning a.now.cipher) a.now)) ≡ bytes_of (seal_of (D.Cipher.meaning b.now.cipher) (told (D.Cipher.meaning b.now.cipher) b.now))) (bytes_of (seal_of (C.Cipher.meaning a.now.cipher) (told (C.Cipher.meaning a.now.cipher) a.now)) ≢ bytes_of (seal_of (D.Cipher.meaning b.now.cipher) (told (D.Cipher.meaning b.now.cipher) b.now))) }
+    ensures { MatchBool result (bytes_of (seal_of (C.meaning a.now.cipher) (told (C.meaning a.now.cipher) a.now)) ≡ bytes_of (seal_of (D.meaning b.now.cipher) (told (D.meaning b.now.cipher) b.now))) (bytes_of (seal_of (C.meaning a.now.cipher) (told (C.meaning a.now.cipher) a.now)) ≢ bytes_of (seal_of (D.meaning b.now.cipher) (told (D.meaning b.now.cipher) b.now))) }
 {
     let mut one = [0u8; 32];
     let mut two = [0u8; 32];
-    let m = read_seal(a, &mut one);
-    let n = read_seal(b, &mut two);
+    // no digest has more than eight words
+    let Ok(m) = a.seal(&mut one) else {
+        unreachable()
+    };
+    let Ok(n) = b.seal(&mut two) else {
+        unreachable()
+    };
     &one[..m] == &two[..n]
 }
 
 // Two sheets that share a seal, traced by one cipher.
 fn judge<C: Cipher>(cipher: &C, x: &[u8], y: &[u8]) -> Verdict
-    requires { (length x.now ≤ 357) × (length y.now ≤ 357) }
-    ensures { Judges (C.Cipher.meaning cipher.now) x.now y.now result }
+    requires x_short { length x.now ≤ 357 }
+    requires y_short { length y.now ≤ 357 }
+    ensures { Judges (C.meaning cipher.now) x.now y.now result }
 {
     match trace(cipher, x, y) {
         Ok((i, j)) => Verdict::Collision(i, j),
@@ -60,14 +44,19 @@ fn judge<C: Cipher>(cipher: &C, x: &[u8], y: &[u8]) -> Verdict
 
 // What the seals of two books say of them.
 pub fn compare<C: Cipher, D: Cipher>(a: &Book<C>, b: &Book<D>) -> Verdict
-    ensures verdict { Compares (C.Cipher.meaning a.now.cipher) (D.Cipher.meaning b.now.cipher) (told (C.Cipher.meaning a.now.cipher) a.now) (told (D.Cipher.meaning b.now.cipher) b.now) result }
-    ensures same_five { NothingLeftBehind (C.Cipher.meaning a.now.cipher) (D.Cipher.meaning b.now.cipher) (told (C.Cipher.meaning a.now.cipher) a.now) (told (D.Cipher.meaning b.now.cipher) b.now) }
-    ensures shared_seal { SharedSealCollides (C.Cipher.meaning a.now.cipher) (D.Cipher.meaning b.now.cipher) (told (C.Cipher.meaning a.now.cipher) a.now) (told (D.Cipher.meaning b.now.cipher) b.now) (λ i j. result ≡ collision i j) }
+    ensures verdict { Compares (C.meaning a.now.cipher) (D.meaning b.now.cipher) (told (C.meaning a.now.cipher) a.now) (told (D.meaning b.now.cipher) b.now) result }
+    ensures same_five { NothingLeftBehind (C.meaning a.now.cipher) (D.meaning b.now.cipher) (told (C.meaning a.now.cipher) a.now) (told (D.meaning b.now.cipher) b.now) }
+    ensures shared_seal { SharedSealCollides (C.meaning a.now.cipher) (D.meaning b.now.cipher) (told (C.meaning a.now.cipher) a.now) (told (D.meaning b.now.cipher) b.now) (λ i j. result ≡ collision i j) }
 {
     let mut one = [0u8; 357];
     let mut two = [0u8; 357];
-    let m = read_sheet(a, &mut one);
-    let n = read_sheet(b, &mut two);
+    // no sheet is longer than 357 bytes
+    let Ok(m) = a.sheet(&mut one) else {
+        unreachable()
+    };
+    let Ok(n) = b.sheet(&mut two) else {
+        unreachable()
+    };
     if !same_seal(a, b) {
         return Verdict::SealsDiffer;
     }

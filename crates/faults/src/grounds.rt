@@ -90,7 +90,8 @@ pub enum BookFault {
 }
 
 impl Layer {
-    // The layer's name as a refusal prints it.
+    // The layer's name as a refusal prints it: bytes, and no `Display`, since lines are put together in fixed memory,
+    // and the library's printing promises its text only where writing succeeds.
     pub fn name(self) -> &'static [u8]
         ensures { result.now ≡ label self }
     {
@@ -118,90 +119,90 @@ fn refused(number: u8, layer: Layer, place: usize) -> Refusal
     }
 }
 
-impl CipherFault {
-    pub fn refusal(self) -> Refusal
-        ensures { result ≡ cipher_refusal self }
-    {
-        match self {
+impl From<CipherFault> for Refusal {
+    ghost from_gives = { λ e r. r ≡ cipher_refusal e };
+
+    fn from(e: CipherFault) -> Refusal {
+        match e {
             CipherFault::Key => refused(11, Layer::Cipher, 0),
             CipherFault::Block => refused(12, Layer::Cipher, 0),
         }
     }
 }
 
-impl BufferFault {
-    pub fn refusal(self) -> Refusal
-        ensures { result ≡ buffer_refusal self }
-    {
-        match self {
+impl From<BufferFault> for Refusal {
+    ghost from_gives = { λ e r. r ≡ buffer_refusal e };
+
+    fn from(e: BufferFault) -> Refusal {
+        match e {
             BufferFault::Short => refused(13, Layer::Buffer, 0),
         }
     }
 }
 
-impl TimetableFault {
-    pub fn refusal(self) -> Refusal
-        ensures { result ≡ timetable_refusal self }
-    {
-        match self {
+impl From<TimetableFault> for Refusal {
+    ghost from_gives = { λ e r. r ≡ timetable_refusal e };
+
+    fn from(e: TimetableFault) -> Refusal {
+        match e {
             TimetableFault::Base(at) => refused(14, Layer::Timetable, at),
             TimetableFault::Closed(at) => refused(15, Layer::Timetable, at),
         }
     }
 }
 
-impl OrderFault {
-    pub fn refusal(self) -> Refusal
-        ensures { result ≡ order_refusal self }
-    {
-        match self {
+impl From<OrderFault> for Refusal {
+    ghost from_gives = { λ e r. r ≡ order_refusal e };
+
+    fn from(e: OrderFault) -> Refusal {
+        match e {
             OrderFault::Letter(at) => refused(16, Layer::Order, at),
             OrderFault::Amount(at) => refused(17, Layer::Order, at),
         }
     }
 }
 
-impl SheetFault {
-    pub fn refusal(self) -> Refusal
-        ensures { result ≡ sheet_refusal self }
-    {
-        match self {
+impl From<SheetFault> for Refusal {
+    ghost from_gives = { λ e r. r ≡ sheet_refusal e };
+
+    fn from(e: SheetFault) -> Refusal {
+        match e {
             SheetFault::Short(given) => refused(18, Layer::Sheet, given),
             SheetFault::Sizes => refused(19, Layer::Sheet, 0),
             SheetFault::Trailing(total) => refused(20, Layer::Sheet, total),
-            SheetFault::Timetable(f) => f.refusal(),
-            SheetFault::Order(f) => f.refusal(),
+            SheetFault::Timetable(f) => f.into(),
+            SheetFault::Order(f) => f.into(),
         }
     }
 }
 
-impl BenchFault {
-    pub fn refusal(self) -> Refusal
-        ensures { result ≡ bench_refusal self }
-    {
-        match self {
+impl From<BenchFault> for Refusal {
+    ghost from_gives = { λ e r. r ≡ bench_refusal e };
+
+    fn from(e: BenchFault) -> Refusal {
+        match e {
             BenchFault::Mark => refused(24, Layer::Bench, 0),
-            BenchFault::Cipher(f) => f.refusal(),
-            BenchFault::Sheet(f) => f.refusal(),
+            BenchFault::Cipher(f) => f.into(),
+            BenchFault::Sheet(f) => f.into(),
         }
     }
 }
 
-impl MessageFault {
-    pub fn refusal(self) -> Refusal
-        ensures { result ≡ message_refusal self }
-    {
-        match self {
+impl From<MessageFault> for Refusal {
+    ghost from_gives = { λ e r. r ≡ message_refusal e };
+
+    fn from(e: MessageFault) -> Refusal {
+        match e {
             MessageFault::Limit => refused(31, Layer::Message, 0),
         }
     }
 }
 
-impl TraceFault {
-    pub fn refusal(self) -> Refusal
-        ensures { result ≡ trace_refusal self }
-    {
-        match self {
+impl From<TraceFault> for Refusal {
+    ghost from_gives = { λ e r. r ≡ trace_refusal e };
+
+    fn from(e: TraceFault) -> Refusal {
+        match e {
             TraceFault::Equal => refused(21, Layer::Trace, 0),
             TraceFault::Differ => refused(22, Layer::Trace, 0),
             TraceFault::Long => refused(23, Layer::Trace, 0),
@@ -209,15 +210,15 @@ impl TraceFault {
     }
 }
 
-impl BookFault {
-    pub fn refusal(self) -> Refusal
-        ensures { result ≡ book_refusal self }
-    {
-        match self {
-            BookFault::Cipher(f) => f.refusal(),
-            BookFault::Buffer(f) => f.refusal(),
-            BookFault::Timetable(f) => f.refusal(),
-            BookFault::Order(f) => f.refusal(),
+impl From<BookFault> for Refusal {
+    ghost from_gives = { λ e r. r ≡ book_refusal e };
+
+    fn from(e: BookFault) -> Refusal {
+        match e {
+            BookFault::Cipher(f) => f.into(),
+            BookFault::Buffer(f) => f.into(),
+            BookFault::Timetable(f) => f.into(),
+            BookFault::Order(f) => f.into(),
             BookFault::Begun => refused(32, Layer::Book, 0),
             BookFault::Full => refused(33, Layer::Book, 0),
             BookFault::Absent => refused(34, Layer::Book, 0),

@@ -1,5 +1,5 @@
 // Why a call is refused. Each layer has an enum of its own, whose cases are the grounds of that layer. One
-// definition (specs/Refusals.antt) gives the number, the layer and the place of every case, and `refusal` answers it.
+// definition (specs/Refusals.antt) gives the number, the layer and the place of every case, and `Refusal::from` answers it.
 #![tactic(auto)]
 
 mod grounds;

@@ -2,9 +2,11 @@
 ghost use Rattle.std.specs.Prelude.{◌≡◌};
 ghost use Rattle.faults.specs.declared.grounds.SheetFault.TheVariants.{Timetable as InTimetable, Order as InOrder};
 ghost use Rattle.faults.specs.declared.grounds.BenchFault.TheVariants.{Cipher as InCipher, Sheet as InSheet};
-ghost use Rattle.faults.specs.declared.grounds.BookFault.TheVariants.{Timetable as ByTimetable, Order as ByOrder};
+ghost use Rattle.faults.specs.declared.grounds.BookFault.TheVariants.{Cipher as ByCipher, Buffer as ByBuffer, Timetable as ByTimetable, Order as ByOrder};
 
-use crate::grounds::{BenchFault, BookFault, CipherFault, OrderFault, SheetFault, TimetableFault};
+use crate::grounds::{
+    BenchFault, BookFault, BufferFault, CipherFault, OrderFault, SheetFault, TimetableFault,
+};
 
 impl From<TimetableFault> for SheetFault {
     ghost from_gives = { λ e r. r ≡ InTimetable e };
@@ -35,6 +37,22 @@ impl From<SheetFault> for BenchFault {
 
     fn from(e: SheetFault) -> BenchFault {
         BenchFault::Sheet(e)
+    }
+}
+
+impl From<CipherFault> for BookFault {
+    ghost from_gives = { λ e r. r ≡ ByCipher e };
+
+    fn from(e: CipherFault) -> BookFault {
+        BookFault::Cipher(e)
+    }
+}
+
+impl From<BufferFault> for BookFault {
+    ghost from_gives = { λ e r. r ≡ ByBuffer e };
+
+    fn from(e: BufferFault) -> BookFault {
+        BookFault::Buffer(e)
     }
 }
 

@@ -49,7 +49,7 @@ impl<'a, C: Cipher> Chain<'a, C> {
         ensures stepped { value_of (C.Cipher.meaning self.old.cipher.now) self.new.places ≡ forward_of (C.Cipher.meaning self.old.cipher.now) (value_of (C.Cipher.meaning self.old.cipher.now) self.old.places) (words_of block.now) }
     {
         let mut words = [0; 16];
-        read_words(block, &mut words);
+        let _ = read_words(block, &mut words);
         self.step(&words);
     }
 

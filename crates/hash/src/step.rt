@@ -28,6 +28,6 @@ pub fn forward<C: Cipher>(
     };
     let before = old.eight();
     cipher.encrypt(block, chain)?;
-    add_words(chain, &before[0..n]);
+    let _ = add_words(chain, &before[0..n]);
     Ok(())
 }

@@ -1,27 +1,14 @@
 -- Orders entered one after the other. Assumes nothing.
-use Rattle.std.proofs.Common.{◌≡◌, ℕ, zero, suc, ◌+◌, ◌<◌, ◌≤◌, true, false, List, [], ◌∷◌, ◌++◌, length, sym, refl, ap, ◌∙◌, subst, arith}
+use Rattle.std.proofs.Common.{◌≡◌, ℕ, suc, ◌<◌, ◌≤◌, true, false, List, [], ◌∷◌, ◌++◌, length, sym, refl, ap, ◌∙◌, subst, arith}
 use Rattle.cipher.specs.Meaning.{Meaning}
 use Rattle.timetable.specs.Hours.{ever_open}
 use Rattle.order.specs.Orders.{Order, InRange, lettered, ranged}
-use Rattle.sheet.specs.Reading.{order_at, orders_from}
-use Rattle.sheet.proofs.Laws.{length_orders}
 use Rattle.ledger.specs.Ledgers.{Given, Ledger, blank}
 use Rattle.ledger.specs.Calls.{Call, Answer, enter, set_up, after, change}
 use Rattle.ledger.proofs.Granted.{granted, enter_granted, set_up_granted}
 use Rattle.book.specs.Told.{told, Does}
 use Rattle.book.specs.declared.state.Book.{Book}
 use Rattle.loading.specs.Loaded.{entered}
-
-orders_push_from : (bs : List ℕ) (j i : ℕ) → orders_from bs j (i + 1) ≡ orders_from bs j i ++ order_at bs (j + i) ∷ []
-orders_push_from bs j zero = let e : j ≡ j + 0 = omega arith in ap (λ (k : ℕ). order_at bs k ∷ []) e
-orders_push_from bs j (suc i) =
-    let e : suc i + 1 ≡ suc (i + 1) = omega arith in
-    let f : j + 1 + i ≡ j + suc i = omega arith in
-    ap (orders_from bs j) e ∙ ap (λ os. order_at bs j ∷ os) (orders_push_from bs (j + 1) i ∙ ap (λ (k : ℕ). orders_from bs (j + 1) i ++ order_at bs k ∷ []) f)
-
--- one order more
-orders_push : (bs : List ℕ) (i : ℕ) → orders_from bs 0 (i + 1) ≡ orders_from bs 0 i ++ order_at bs i ∷ []
-orders_push bs i = let e : 0 + i ≡ i = omega arith in orders_push_from bs 0 i ∙ ap (λ (k : ℕ). orders_from bs 0 i ++ order_at bs k ∷ []) e
 
 entered_push : (os : List Order) (o : Order) → entered (os ++ o ∷ []) ≡ entered os ++ (record { order = o; undone = false }) ∷ []
 unfolding entered
@@ -33,25 +20,25 @@ unfolding entered
 length_entered [] = refl
 length_entered (o ∷ os) = ap suc (length_entered os)
 
-pub entered_none : (bs : List ℕ) → [] ≡ entered (orders_from bs 0 0)
+pub entered_none : [] ≡ entered []
 unfolding entered
-entered_none bs = refl
+entered_none = refl
 
--- the i-th order of a sheet is entered behind those before it
-pub enters_next : (m : Meaning) (l new : Ledger) (g : Given) (bs : List ℕ) (i : ℕ) (o : Order) (c a : ℕ) → l ≡ record { given = g; lines = entered (orders_from bs 0 i) } → o ≡ order_at bs i → InRange o
-    → c ≡ o.letter → a ≡ o.amount → i < 64 → new ≡ after m (enter c a) l → new ≡ record { given = g; lines = entered (orders_from bs 0 (i + 1)) }
+-- one order more is entered behind the others
+pub enters_next : (m : Meaning) (l new : Ledger) (g : Given) (os : List Order) (o : Order) (c a : ℕ) → l ≡ record { given = g; lines = entered os } → InRange o
+    → c ≡ o.letter → a ≡ o.amount → length os < 64 → new ≡ after m (enter c a) l → new ≡ record { given = g; lines = entered (os ++ o ∷ []) }
 unfolding change
-enters_next m l new g bs i o c a is at fits ec ea few e =
-    let long : length l.lines ≡ i = ap (λ (x : Ledger). length x.lines) is ∙ length_entered (orders_from bs 0 i) ∙ length_orders bs 0 i in
+enters_next m l new g os o c a is fits ec ea few e =
+    let long : length l.lines ≡ length os = ap (λ (x : Ledger). length x.lines) is ∙ length_entered os in
     let named : lettered c ≡ true = ap lettered ec ∙ fits.letter in
     let sized : ranged c a ≡ true = (λ j. ranged (ec j) (ea j)) ∙ fits.amount in
     let p = granted m (enter c a) l (enter_granted m c a l named sized (omega arith)) in
-    let line : ((record { order = record { letter = c; amount = a }; undone = false }) ∷ []) ≡ ((record { order = order_at bs i; undone = false }) ∷ []) =
-    (λ j. (record { order = record { letter = ec j; amount = ea j }; undone = false }) ∷ []) ∙ (λ j. (record { order = at j; undone = false }) ∷ []) in
+    let line : ((record { order = record { letter = c; amount = a }; undone = false }) ∷ []) ≡ ((record { order = o; undone = false }) ∷ []) =
+    λ j. (record { order = record { letter = ec j; amount = ea j }; undone = false }) ∷ [] in
     e
     ∙ p.0
     ∙ (λ j. record { given = (is j).given; lines = (is j).lines ++ line j })
-    ∙ (λ j. record { given = g; lines = (sym (entered_push (orders_from bs 0 i) (order_at bs i)) ∙ ap entered (sym (orders_push bs i))) j })
+    ∙ (λ j. record { given = g; lines = sym (entered_push os o) j })
 
 -- a blank ledger is set up
 pub sets_blank : (m : Meaning) (new : Ledger) (g : Given) → length g.start ≡ m.width → g.base ≤ 1000000 → ever_open g.table ≡ true → new ≡ after m (set_up g) (blank m) → new ≡ record { given = g; lines = [] }

@@ -15,45 +15,31 @@ use faults::{BenchFault, CipherFault};
 use sheet::Reader;
 use words::read_words;
 
-fn name_of(reader: &Reader<'_>) -> [u8; 8]
-    requires { length (name reader.now.bytes.now) ≡ 8 }
-    ensures { result ≡ name reader.now.bytes.now }
-{
-    let mut bytes = [0u8; 8];
-    bytes.copy_from_slice(reader.name());
-    bytes
-}
-
-fn table_of(reader: &Reader<'_>) -> [u8; 21]
-    requires { length (table reader.now.bytes.now) ≡ 21 }
-    ensures { result ≡ table reader.now.bytes.now }
-{
-    let mut bytes = [0u8; 21];
-    bytes.copy_from_slice(reader.timetable());
-    bytes
-}
-
 // The orders of a sheet, one after the other.
 fn enter_all<C: Cipher>(book: &mut Book<C>, reader: &Reader<'_>)
-    requires { (sheet_fault reader.now.bytes.now ≡ none) × ((told (C.Cipher.meaning book.old.cipher) book.old).lines ≡ []) }
+    requires { (told (C.Cipher.meaning book.old.cipher) book.old).lines ≡ [] }
     ensures same { book.new.cipher ≡ book.old.cipher }
-    ensures after { told (C.Cipher.meaning book.old.cipher) book.new ≡ record { given = (told (C.Cipher.meaning book.old.cipher) book.old).given; lines = entered (orders reader.now.bytes.now) } }
+    ensures after { told (C.Cipher.meaning book.old.cipher) book.new ≡ record { given = (told (C.Cipher.meaning book.old.cipher) book.old).given; lines = entered (orders reader.now.sheet.bytes.now) } }
 {
-    let mut i = 0;
-    while let Some(order) = reader.order(i) {
+    let mut rest = reader.orders();
+    while let Some(order) = rest.next() {
         let _ = book.enter(char::from(order.letter()), order.amount());
-        i += 1;
     }
 }
 
 // A book of an accepted sheet.
 fn open<C: Cipher>(cipher: C, start: &[u32], reader: &Reader<'_>) -> Book<C>
-    requires { (sheet_fault reader.now.bytes.now ≡ none) × (length start.now ≡ (C.Cipher.meaning cipher).width) }
+    requires { length start.now ≡ (C.Cipher.meaning cipher).width }
     ensures same { result.cipher ≡ cipher }
-    ensures value { told (C.Cipher.meaning cipher) result ≡ loaded start.now reader.now.bytes.now }
+    ensures value { told (C.Cipher.meaning cipher) result ≡ loaded start.now reader.now.sheet.bytes.now }
 {
     let mut book = Book::new(cipher);
-    let _ = book.set_up(name_of(reader), reader.base_hour(), table_of(reader), start);
+    let _ = book.set_up(
+        *reader.name(),
+        reader.base_hour(),
+        *reader.timetable(),
+        start,
+    );
     enter_all(&mut book, reader);
     book
 }

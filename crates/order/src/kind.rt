@@ -18,7 +18,8 @@ pub struct Order {
     ghost range: { ranged (letter_of kind) value ≡ true },
 }
 
-// At most 64 orders, in sequence.
+// At most 64 orders, in sequence. An array with a count, since there is no heap here, and the kit's vector of fixed
+// room (`arrayvec`) is not `Copy`, which these are, and wants a default order.
 #[derive(Clone, Copy)]
 pub struct Orders {
     pub(crate) lines: [Order; 64],

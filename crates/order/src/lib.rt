@@ -5,4 +5,4 @@ mod kind;
 mod list;
 mod order;
 
-pub use kind::{Order, Orders};
+pub use kind::{Kind, Order, Orders};

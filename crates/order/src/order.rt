@@ -8,7 +8,8 @@ use faults::OrderFault;
 use timetable::Timetable;
 
 impl Order {
-    // An order of a letter and an amount: 'D' with 1 to 720 hours, 'N' with an hour up to 1,000,000.
+    // An order of a letter and an amount: 'D' with 1 to 720 hours, 'N' with an hour up to 1,000,000. The letter is a
+    // `char`, as it is entered.
     pub fn new(letter: char, amount: u32) -> Result<Order, OrderFault>
         ensures { Makes 0 0 letter amount result }
     {
@@ -36,6 +37,12 @@ impl Order {
             'D' | 'N' => Err(OrderFault::Amount(amount_place)),
             _ => Err(OrderFault::Letter(letter_place)),
         }
+    }
+
+    pub fn kind(self) -> Kind
+        ensures { result ≡ self.kind }
+    {
+        self.kind
     }
 
     pub fn letter(self) -> u8

@@ -1,33 +1,32 @@
 -- The search for the longest delay in force, from the last line to the first. Assumes nothing.
-use Rattle.std.proofs.Common.{◌≡◌, ℕ, ◌+◌, ◌-◌, ◌<◌, ◌≤◌, Bool, true, false, cond, ◌&&◌, ltb, List, ◌∷◌, map, length, get_or, drop, sym, refl, ap, ◌∙◌, arith}
-use Rattle.std.proofs.lemmas.List.{drop_more, drop_all}
-use Rattle.std.proofs.lemmas.Bool.{cond-true, cond-false, lt-ltb, le-ltb}
-use Rattle.order_table.specs.Lines.{best, delays}
-use Rattle.order_table.specs.Views.{view, hours}
+use Rattle.std.proofs.Common.{◌≡◌, ℕ, ◌+◌, List, [], ◌∷◌, ◌++◌, map, length, drop, refl, sym, ap, ◌∙◌, append_assoc, arith}
+use Rattle.std.proofs.lemmas.List.{append-nil, drop_all, drop_at, length-append}
+use Rattle.order_table.specs.Lines.{longer, best}
+use Rattle.order_table.specs.Views.{view}
 use Rattle.order_table.specs.declared.line.Line as code
 
-pub best_none : (ls : List code.Line) (i n : ℕ) → length ls ≤ i → best n (map view (drop i ls)) ≡ (0, 0)
+-- `rest` is a front of the lines, and r the best of those behind it
+pub record Searched (ls rest : List code.Line) (r : ℕ × ℕ) : Type 0 where
+  pub front : rest ++ drop (length rest) ls ≡ ls
+  pub behind : best (length rest + 1) (map view (drop (length rest) ls)) ≡ r
+
+pub searched_none : (ls : List code.Line) → Searched ls ls (0, 0)
 unfolding best
-best_none ls i n h = ap (λ xs. best n (map view xs)) (drop_all i ls h)
+searched_none ls =
+    let none = drop_all (length ls) ls (omega arith) in
+    record { front = ap (λ z. ls ++ z) none ∙ append-nil ls; behind = ap (λ z. best (length ls + 1) (map view z)) none }
 
-longer : (d : Bool) (n k a h : ℕ) → ◌≡◌ {A = ℕ × ℕ} (cond (d && ltb a h) (n, h) (k, a)) (cond (ltb a (cond d h 0)) (n, cond d h 0) (k, a))
-longer true n k a h = refl
-longer false n k a h = let z : 0 ≤ a = omega arith in sym (cond-false (ltb a 0) (n, 0) (k, a) (le-ltb a 0 z))
-
-best_cons : (n : ℕ) (l : code.Line) (ls : List code.Line) (k a : ℕ) → best (n + 1) (map view ls) ≡ (k, a) → best n (map view (l ∷ ls)) ≡ cond (ltb a (hours l)) (n, hours l) (k, a)
+pub searched_more : (ls rest before : List code.Line) (x : code.Line) (r : ℕ × ℕ) → Searched ls rest r → rest ≡ before ++ x ∷ [] → Searched ls before (longer (view x) (length rest) r)
 unfolding best
-best_cons n l ls k a e = rw e (longer (delays (view l)) n k a (view l).order.amount)
+searched_more ls rest before x r s e =
+    let back = drop (length rest) ls in
+    let whole : before ++ x ∷ back ≡ ls = sym (append_assoc before (x ∷ []) back) ∙ ap (λ z. z ++ back) (sym e) ∙ s.front in
+    let tail : drop (length before) ls ≡ x ∷ back = ap (drop (length before)) (sym whole) ∙ drop_at before (x ∷ back) (length before) refl in
+    let n : length before + 1 ≡ length rest = sym (ap length e ∙ length-append before (x ∷ [])) in
+    record {
+      front = ap (λ z. before ++ z) tail ∙ whole;
+      behind = ap (λ z. best (length before + 1) (map view z)) tail ∙ ap (λ m. longer (view x) m (best (m + 1) (map view back))) n ∙ ap (longer (view x) (length rest)) s.behind;
+    }
 
-module _ (ls : List code.Line) (i : ℕ) (d : code.Line) (k a : ℕ) (h : ℕ) (p : 0 < i) (q : i ≤ length ls) (at : d ≡ get_or ls (i - 1) d) (is : h ≡ hours d) (e : best (i + 1) (map view (drop i ls)) ≡ (k, a)) where
-  best_step : best (i - 1 + 1) (map view (drop (i - 1) ls)) ≡ cond (ltb a h) (i - 1 + 1, h) (k, a)
-  best_step =
-      let lt : i - 1 < length ls = omega arith in
-      let one : i - 1 + 1 ≡ i = omega arith in
-      let f : best (i - 1 + 1 + 1) (map view (drop (i - 1 + 1) ls)) ≡ (k, a) = rw one e in
-      ap (λ xs. best (i - 1 + 1) (map view xs)) (drop_more ls (i - 1) d lt) ∙ best_cons (i - 1 + 1) (get_or ls (i - 1) d) (drop (i - 1 + 1) ls) k a f ∙ ap (λ x. cond (ltb a x) (i - 1 + 1, x) (k, a)) (ap hours (sym at) ∙ sym is)
-
-  pub best_longer : a < h → best (i - 1 + 1) (map view (drop (i - 1) ls)) ≡ (i - 1 + 1, h)
-  best_longer g = best_step ∙ cond-true (ltb a h) _ _ (lt-ltb a h g)
-
-  pub best_stays : h ≤ a → best (i - 1 + 1) (map view (drop (i - 1) ls)) ≡ (k, a)
-  best_stays g = best_step ∙ cond-false (ltb a h) _ _ (le-ltb a h g)
+pub searched_all : (ls rest : List code.Line) (r : ℕ × ℕ) → length rest ≡ 0 → Searched ls rest r → r ≡ best 1 (map view ls)
+searched_all ls rest r e s = sym s.behind ∙ ap (λ n. best (n + 1) (map view (drop n ls))) e

@@ -1,7 +1,7 @@
 -- Lines by their numbers, and the orders in force. Assumes nothing.
 use Rattle.std.proofs.Common.{◌≡◌, ℕ, zero, suc, ◌+◌, ◌-◌, ◌<◌, ◌≤◌, min, Bool, true, false, cond, List, [], ◌∷◌, ◌++◌, map, length, get_or, take, drop, set, Ok, Result, sym, refl, ap, ◌∙◌, subst, append_assoc, arith}
 use mathlib.Core.Option.{none, some}
-use Rattle.std.proofs.lemmas.List.{length-map, length-append, map-append, take-append-drop, drop_more, drop_all, drop-set, take-set, append-nil, length-drop, length-take, length-take-le, get_or-take, get_or_default, drop-map, drop-set-lt}
+use Rattle.std.proofs.lemmas.List.{length-map, length-append, map-append, take-append-drop, drop_more, drop_all, drop-set, take-set, append-nil, length-take, length-take-le, get_or-take, get_or_default, drop-map, drop-set-lt}
 use Rattle.std.proofs.lemmas.Bool.{cond-true, cond-false}
 use Rattle.faults.specs.declared.grounds.BookFault.TheVariants.{Absent, Undone}
 use Rattle.order.specs.Orders.{Order, AllInRange}
@@ -82,7 +82,7 @@ found_undone ls n d p q u = rw (numbered ls n d p q) (rw u)
 pub found_standing : (ls : List code.Line) (n : ℕ) (d : code.Line) → 1 ≤ n → n ≤ length ls → (get_or ls (n - 1) d).undone ≡ false → undo_fault (map view ls) n ≡ none
 found_standing ls n d p q u = rw (numbered ls n d p q) (rw u)
 
--- ---- the orders in force from a place on, one line more
+-- ---- the orders in force among lines, one line more
 
 orders_more : (ls : List code.Line) (i : ℕ) (d : code.Line) → i < length ls → d ≡ get_or ls i d
     → orders (map view (drop i ls)) ≡ cond d.undone (orders (map view (drop (i + 1) ls))) (order_views.view d.order ∷ orders (map view (drop (i + 1) ls)))
@@ -99,22 +99,18 @@ kept_undone ls i d os rest h at u e =
     let q : orders (map view (drop i ls)) ≡ orders (map view (drop (i + 1) ls)) = orders_more ls i d h at ∙ cond-true d.undone _ _ u in
     ap (λ xs. os ++ xs) (sym q) ∙ e
 
-module _ (ls : List code.Line) (i : ℕ) (d : code.Line) (from : ℕ) (old new : Orders) (r : Result (Unit {0}) code_order.Order)
+module _ (ls : List code.Line) (i : ℕ) (d : code.Line) (old new : Orders) (r : Result (Unit {0}) code_order.Order)
     (h : i < length ls) (few : length ls ≤ 64) (at : d ≡ get_or ls i d) (u : d.undone ≡ false) (p : Pushed old new d.order r)
-    (e : listed old ++ orders (map view (drop i ls)) ≡ orders (map view (drop from ls))) where
+    (e : listed old ++ orders (map view (drop i ls)) ≡ orders (map view ls)) where
   next : orders (map view (drop i ls)) ≡ order_views.view d.order ∷ orders (map view (drop (i + 1) ls))
   next = orders_more ls i d h at ∙ cond-false d.undone _ _ u
 
   room : length (listed old) < 64
   room =
-      let a : length (listed old) + length (orders (map view (drop i ls))) ≡ length (orders (map view (drop from ls))) = sym (length-append (listed old) (orders (map view (drop i ls)))) ∙ ap length e in
-      let b = ap length next in
-      let c = orders_few (map view (drop from ls)) in
-      let l = length-map (drop from ls) view in
-      let t : length (drop from ls) ≤ length ls = simp length-drop (omega arith) in
-      omega arith
+      let a : length (listed old) + length (orders (map view (drop i ls))) ≡ length (orders (map view ls)) = sym (length-append (listed old) (orders (map view (drop i ls)))) ∙ ap length e in
+      omega (arith, ap length next, orders_few (map view ls), length-map ls view)
 
-  pub kept_pushed : listed new ++ orders (map view (drop (i + 1) ls)) ≡ orders (map view (drop from ls))
+  pub kept_pushed : listed new ++ orders (map view (drop (i + 1) ls)) ≡ orders (map view ls)
   kept_pushed =
       ap (λ xs. xs ++ orders (map view (drop (i + 1) ls))) (pushed_room old new d.order r p room)
       ∙ append_assoc (listed old) (order_views.view d.order ∷ []) (orders (map view (drop (i + 1) ls)))

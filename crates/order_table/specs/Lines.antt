@@ -69,11 +69,15 @@ pub record Longest (ls : List Line) (n : ℕ) (l : Line) : Type 0 where
   pub longest : (k : ℕ) (o : Line) → line ls k ≡ some o → delays o ≡ true → o.order.amount ≤ l.order.amount
   pub latest : (k : ℕ) (o : Line) → line ls k ≡ some o → delays o ≡ true → o.order.amount ≡ l.order.amount → k ≤ n
 
+-- a line by its number and with its hours, where it is a delay in force and longer than what was found behind it
+abbrev pub longer : Line → ℕ → ℕ × ℕ → ℕ × ℕ
+longer l n r = cond (delays l && nat_lt r.1 l.order.amount) (n, l.order.amount) r
+
 -- the same as a number with its hours, zeros where no delay is in force: from number n on, the best of the rest
 -- unless line n is longer
 unfoldable pub best : ℕ → List Line → ℕ × ℕ
 best n [] = (0, 0)
-best n (l ∷ ls) = let r = best (n + 1) ls in cond (delays l && nat_lt r.1 l.order.amount) (n, l.order.amount) r
+best n (l ∷ ls) = longer l n (best (n + 1) ls)
 
 abbrev pub pick : List Line → ℕ
 pick ls = (best 1 ls).0

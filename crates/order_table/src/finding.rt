@@ -1,11 +1,11 @@
-ghost use Rattle.std.specs.Prelude.{◌≡◌, ◌≤◌, map, length, drop};
+ghost use Rattle.std.specs.Prelude.{◌≡◌, ◌≤◌, true, false, map, length, MatchOption, IfSome, unwrap_or};
 ghost use Rattle.order.specs.Views.{listed};
-ghost use Rattle.order_table.specs.Lines.{orders, best};
-ghost use Rattle.order_table.specs.Views.{view, hours, Found};
+ghost use Rattle.order_table.specs.Lines.{orders, best, delays, longer};
+ghost use Rattle.order_table.specs.Views.{view, Found};
 
 use crate::line::Line;
 use faults::BookFault;
-use order::Orders;
+use order::{Kind, Orders};
 
 // The place of the line of a number, if it is in force.
 pub(crate) fn find(lines: &[Line], number: usize) -> Result<usize, BookFault>
@@ -20,41 +20,49 @@ pub(crate) fn find(lines: &[Line], number: usize) -> Result<usize, BookFault>
     Ok(number - 1)
 }
 
-// The hours of a delay in force, and 0 of any other line.
-fn hours_of(line: Line) -> u32
-    ensures { result ≡ hours line }
+// The hours of a delay in force; none of any other line.
+fn hours_of(line: Line) -> Option<u32>
+    ensures { MatchOption result (delays (view line) ≡ false) (λ h. (delays (view line) ≡ true) × (h ≡ (view line).order.amount)) }
 {
-    if !line.undone && line.order.letter() == b'D' {
-        line.order.amount()
-    } else {
-        0
+    match line.order.kind() {
+        Kind::Delay if !line.undone => Some(line.order.amount()),
+        _ => None,
     }
 }
 
-// The number of the longest delay in force and its hours, of equals the highest number; zeros where there is none.
-pub(crate) fn longest_of(lines: &[Line]) -> (usize, u32)
-    ensures { result ≡ best 1 (map view lines.now) }
+// What was found behind a line, or the line by its number where it is a longer delay.
+fn or_longer(longest: Option<(usize, u32)>, number: usize, line: Line) -> Option<(usize, u32)>
+    requires { IfSome longest (λ p. 1 ≤ p.1) }
+    ensures hours { IfSome result (λ p. 1 ≤ p.1) }
+    ensures value { unwrap_or result (0, 0) ≡ longer (view line) number (unwrap_or longest (0, 0)) }
 {
-    let mut number = 0;
-    let mut most = 0;
-    for i in (0..lines.len()).rev() {
-        let h = hours_of(lines[i]);
-        if h > most {
-            number = i + 1;
-            most = h;
-        }
+    match hours_of(line) {
+        Some(hours) if longest.is_none_or(|(_, most)| hours > most) => Some((number, hours)),
+        _ => longest,
     }
-    (number, most)
 }
 
-// The orders in force among the lines from a place on.
-pub(crate) fn in_force_from(lines: &[Line], from: usize) -> Orders
-    requires { (from ≤ length lines.now) × (length lines.now ≤ 64) }
-    ensures { listed result ≡ orders (map view (drop from lines.now)) }
+// The number of the longest delay in force and its hours, of equals the highest number.
+pub(crate) fn longest_of(lines: &[Line]) -> Option<(usize, u32)>
+    ensures hours { IfSome result (λ p. 1 ≤ p.1) }
+    ensures value { unwrap_or result (0, 0) ≡ best 1 (map view lines.now) }
+{
+    let mut longest = None;
+    let mut rest = lines;
+    while let Some((line, before)) = rest.split_last() {
+        longest = or_longer(longest, rest.len(), *line);
+        rest = before;
+    }
+    longest
+}
+
+// The orders in force among lines.
+pub(crate) fn in_force_of(lines: &[Line]) -> Orders
+    requires { length lines.now ≤ 64 }
+    ensures { listed result ≡ orders (map view lines.now) }
 {
     let mut standing = Orders::new();
-    for i in from..lines.len() {
-        let line = lines[i];
+    for line in lines {
         if !line.undone {
             let _ = standing.push(line.order);
         }

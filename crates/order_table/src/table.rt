@@ -3,7 +3,7 @@ ghost use Rattle.order.specs.Views.{listed};
 ghost use Rattle.order_table.specs.Lines.{orders};
 ghost use Rattle.order_table.specs.Views.{view, lines_of, Entered, Undid, Picks};
 
-use crate::finding::{find, in_force_from, longest_of};
+use crate::finding::{find, in_force_of, longest_of};
 use crate::line::{Line, Table};
 use faults::BookFault;
 use order::{Order, Orders};
@@ -58,21 +58,21 @@ impl Table {
         let at = find(self.lines(), number)?;
         let order = self.lines[at].order;
         self.lines[at].undone = true;
-        Ok((order, in_force_from(self.lines(), at + 1)))
+        Ok((order, in_force_of(&self.lines()[at + 1..])))
     }
 
     // The number of the longest delay in force, of equals the highest; none where no delay is in force.
     pub fn longest(&self) -> Option<usize>
         ensures { Picks (lines_of self.now) result }
     {
-        let (number, most) = longest_of(self.lines());
-        if most == 0 { None } else { Some(number) }
+        let (number, _) = longest_of(self.lines())?;
+        Some(number)
     }
 
     // The orders in force, in the sequence of their numbers.
     pub fn in_force(&self) -> Orders
         ensures { listed result ≡ orders (lines_of self.now) }
     {
-        in_force_from(self.lines(), 0)
+        in_force_of(self.lines())
     }
 }

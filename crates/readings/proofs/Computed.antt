@@ -4,7 +4,7 @@ use Rattle.std.specs.Fmt.{digits}
 use Rattle.timetable.specs.Hours.{opens_at, some_open, ever_open, seek, next}
 use Rattle.order.specs.Orders.{apply, applied, opening}
 use Rattle.sheet.specs.Reading.{sheet_fault}
-use Rattle.bench_run.specs.Lines.{refusal_line, opening_line}
+use Rattle.bench_io.specs.Lines.{refusal_line, opening_line}
 use Rattle.bench_run.specs.Bench.{sheet_opening, outcome, bench}
 use Rattle.hash.specs.Digests.{padded, cut, chain, digest}
 use Rattle.shacal1.proofs.Computed as one

@@ -1,8 +1,7 @@
 -- What a reader finds as it goes through the checks. Assumes nothing.
-use Rattle.std.proofs.Common.{◌≡◌, ℕ, zero, suc, ◌+◌, ◌-◌, ◌<◌, ◌≤◌, min, List, [], ◌∷◌, ◌++◌, length, take, drop, Ok, Err, Result, sym, ap, ◌∙◌, subst, inl, inr, arith, length-drop}
+use Rattle.std.proofs.Common.{◌≡◌, ℕ, zero, suc, ◌+◌, ◌-◌, ◌<◌, ◌≤◌, List, [], ◌∷◌, ◌++◌, length, true, is_ok, Ok, Err, Result, sym, refl, ap, ◌∙◌, subst, append_assoc, arith, length-append}
 use mathlib.Core.Option.{none, some}
-use Rattle.std.proofs.lemmas.List.{take_all, take_rest, drop_all}
-use Rattle.std.proofs.lemmas.Bool.{cases_lt, both_ways}
+use Rattle.std.proofs.lemmas.Bool.{both_ways}
 use Rattle.faults.specs.declared.grounds.SheetFault.{SheetFault}
 use Rattle.faults.specs.declared.grounds.SheetFault.TheVariants as sheet
 use Rattle.faults.specs.declared.grounds.OrderFault.{OrderFault}
@@ -12,27 +11,7 @@ use Rattle.order.specs.Views.{Makes}
 use Rattle.order.specs.declared.kind.Order.{Order}
 use Rattle.sheet.specs.Reading.{count, letter_place, amount_place, order_at, orders_from, orders, first, size_checks, set_up_checks, order_checks, orders_checks, sheet_fault}
 use Rattle.sheet.proofs.Faultless.{first_passed, first_failed, none_fault}
-
--- a part that is cut at the end
-pub part_is : (bs : List ℕ) (at n from to : ℕ) → from ≡ min at (length bs) → to ≡ min (at + n) (length bs) → take (to - from) (drop from bs) ≡ take n (drop at bs)
-part_is bs at n from to f t =
-    elim (cases_lt (length bs) at) [
-      | inl past ↦
-          let e : from ≡ length bs = omega arith in
-          let none : drop from bs ≡ [] = drop_all from bs (omega arith) in
-          let none' : drop at bs ≡ [] = drop_all at bs (omega arith) in
-          ap (take (to - from)) none ∙ take_all (to - from) [] (omega arith) ∙ sym (take_all n [] (omega arith)) ∙ ap (take n) (sym none')
-      | inr within ↦
-          let e : from ≡ at = omega arith in
-          elim (cases_lt (length bs) (at + n)) [
-            | inl cut ↦
-                let k : to - from ≡ length bs - at = omega arith in
-                (λ i. take (k i) (drop (e i) bs)) ∙ take_rest bs at ∙ sym (take_all n (drop at bs) (simp length-drop (omega arith)))
-            | inr whole ↦
-                let k : to - from ≡ n = omega arith in
-                λ i. take (k i) (drop (e i) bs)
-          ]
-    ]
+use Rattle.sheet.proofs.Laws.{length_orders}
 
 -- the checks of an order tell what is made of its letter and its amount
 abbrev pub Checked : List ℕ → ℕ → Result Order OrderFault → Type 0
@@ -59,9 +38,6 @@ pub order_failed : (bs : List ℕ) (i n : ℕ) (f : SheetFault) → i < n → fi
 order_failed bs i n f h e =
     ap (λ os. first (orders_checks bs i os)) (orders_more bs i n h)
     ∙ first_failed (order_checks bs i (order_at bs i)) (orders_checks bs (i + 1) (orders_from bs (i + 1) (n - (i + 1)))) f e
-
-pub orders_passed : (bs : List ℕ) (i n : ℕ) → n ≤ i → first (orders_checks bs i (orders_from bs i (n - i))) ≡ none
-orders_passed bs i n h = let e : n - i ≡ 0 = omega arith in ap (λ (k : ℕ). first (orders_checks bs i (orders_from bs i k))) e
 
 -- the checks in their sequence
 pub sizes_failed : (bs : List ℕ) (f : SheetFault) → first (size_checks bs) ≡ some f → sheet_fault bs ≡ some f
@@ -92,3 +68,18 @@ in_range_from bs j (suc n) (suc i) r h = let e : j + 1 + i ≡ j + suc i = omega
 -- the orders of an accepted sheet are in range
 pub order_in_range : (bs : List ℕ) (i : ℕ) → sheet_fault bs ≡ none → i < count bs → InRange (order_at bs i)
 order_in_range bs i e h = let z : 0 + i ≡ i = omega arith in subst (λ (k : ℕ). InRange (order_at bs k)) z (in_range_from bs 0 (count bs) i (none_fault bs e).2 h)
+
+-- and so each of them is made
+pub made : (bs : List ℕ) (i : ℕ) → sheet_fault bs ≡ none → i < count bs → (r : Result Order OrderFault) → Makes (letter_place bs i) (amount_place bs i) (order_at bs i).letter (order_at bs i).amount r → is_ok r ≡ true
+made bs i e h (Ok o) m = refl
+made bs i e h (Err f) m = absurd (out_of_range _ _ _ _ f m (order_in_range bs i e h))
+
+-- a faultless sheet has at most 64 orders
+pub few_orders : (bs : List ℕ) → sheet_fault bs ≡ none → length (orders bs) ≤ 64
+few_orders bs e = omega (arith, length_orders bs 0 (count bs), (none_fault bs e).0.few)
+
+-- a walk over at most 64 orders: the next one is put behind those that were given
+pub walk_more : {A : Type 0} (all done old new : List A) (x : A) → done ++ old ≡ all → old ≡ x ∷ new → length all ≤ 64 → (length done < 64) × ((done ++ x ∷ []) ++ new ≡ all)
+walk_more all done old new x is next few =
+    let whole = append_assoc done (x ∷ []) new ∙ ap (λ xs. done ++ xs) (sym next) ∙ is in
+    (omega (arith, ap length whole, length-append (done ++ x ∷ []) new, length-append done (x ∷ [])), whole)

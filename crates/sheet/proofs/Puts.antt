@@ -1,7 +1,7 @@
 -- A sheet written part by part. Assumes nothing.
 use Rattle.std.proofs.Common.{◌≡◌, ℕ, ◌+◌, ◌*◌, ◌<◌, ◌≤◌, List, [], ◌∷◌, ◌++◌, map, length, get_or, take, drop, set, sym, refl, ap, ◌∙◌, append_assoc, arith, length-append}
 use borrow.Rule.Slice.PartMut.{put_mid}
-use Rattle.std.proofs.lemmas.List.{map_more, length-map, length-take-le, drop_more, set_at, take_all}
+use Rattle.std.proofs.lemmas.List.{map_more, length-map, length-take-le, drop_more, set_at}
 use Rattle.words.specs.Words.{word_bytes}
 use Rattle.words.proofs.Puts.{put_next, put_rest}
 use Rattle.order.specs.Orders as orders
@@ -46,15 +46,6 @@ module _ (os : List Order) (old out : List ℕ) (i : ℕ) (d : Order) (h : i < l
       put_next front ys old out (4 * i) k long is
       ∙ (λ j. front ++ word j ++ drop (next j) old)
       ∙ ap (λ (f : List ℕ). f ++ drop (4 * (i + 1)) old) (sym more)
-
--- and all of them
-pub letters_all : (os : List Order) (old out : List ℕ) (i : ℕ) → i ≡ length os → out ≡ letters (map view (take i os)) ++ drop i old
-    → out ≡ letters (map view os) ++ drop (length os) old
-letters_all os old out i e is = let t = take_all i os (omega arith) in is ∙ (λ j. letters (map view (t j)) ++ drop (e j) old)
-
-pub amounts_all : (os : List Order) (old out : List ℕ) (i : ℕ) → i ≡ length os → out ≡ amounts (map view (take i os)) ++ drop (4 * i) old
-    → out ≡ amounts (map view os) ++ drop (4 * length os) old
-amounts_all os old out i e is = let t = take_all i os (omega arith) in is ∙ (λ j. amounts (map view (t j)) ++ drop (4 * e j) old)
 
 -- five parts behind one another
 pub put_five : (old a b c d e : List ℕ) → length a ≡ 2 → length b ≡ 2 → length c ≡ 4 → length d ≡ 8

@@ -4,7 +4,9 @@
 
 mod checks;
 mod reading;
+mod walk;
 mod writing;
 
 pub use reading::Reader;
+pub use walk::SheetOrders;
 pub use writing::write;

@@ -1,70 +1,68 @@
-ghost use Rattle.std.specs.Prelude.{◌≡◌, ◌^◌, ◌<◌, is_some, Ok, Err, nat_lt};
+ghost use Rattle.std.specs.Prelude.{◌≡◌, ◌^◌, ◌<◌, IfOk, IfErr, is_some, nat_lt};
 ghost use Rattle.std.proofs.Math.Option.{none, some};
 ghost use Rattle.sheet.specs.Reading.{count as count_of, base, name as name_of, table, sheet_fault};
 ghost use Rattle.sheet.specs.Contents.{OneSheet};
 ghost use Rattle.sheet.specs.Views.{Shows};
 
-use crate::checks::{check_orders, check_set_up, check_sizes, half, order_at, part, word};
+use crate::checks::SizedBytes;
 use faults::SheetFault;
 use order::Order;
 
-// A sheet in the caller's bytes.
+// A sheet in the caller's bytes, in which no fault was found.
 #[derive(Clone, Copy)]
 pub struct Reader<'a> {
-    bytes: &'a [u8],
+    pub(crate) sheet: SizedBytes<'a>,
+    ghost faultless: { sheet_fault sheet.bytes.now ≡ none },
 }
 
 impl<'a> Reader<'a> {
     // A reader over the bytes, or the first fault in them.
     pub fn open(bytes: &'a [u8]) -> Result<Reader<'a>, SheetFault>
-        ensures { elim result [ Ok s ↦ (s.bytes.now ≡ bytes.now) × OneSheet bytes.now | Err f ↦ sheet_fault bytes.now ≡ some f ] }
+        ensures opened { IfOk result (λ s. (s.sheet.bytes.now ≡ bytes.now) × OneSheet bytes.now) }
+        ensures refused { IfErr result (λ f. sheet_fault bytes.now ≡ some f) }
     {
-        let count = check_sizes(bytes)?;
-        check_set_up(bytes)?;
-        check_orders(bytes, count)?;
-        Ok(Reader { bytes })
+        let sheet = SizedBytes::of(bytes)?;
+        sheet.check_set_up()?;
+        sheet.check_orders()?;
+        Ok(Reader { sheet })
     }
 
     pub fn base_hour(&self) -> u32
-        ensures { result ≡ base self.now.bytes.now }
+        ensures { result ≡ base self.now.sheet.bytes.now }
     {
-        word(self.bytes, 4)
+        self.sheet.base_hour()
     }
 
     // The lock's name, where it stands in the caller's bytes.
-    pub fn name(&self) -> &'a [u8]
-        ensures { result.now ≡ name_of self.now.bytes.now }
+    pub fn name(&self) -> &'a [u8; 8]
+        ensures { result.now ≡ name_of self.now.sheet.bytes.now }
     {
-        part(self.bytes, 8, 8)
+        self.sheet.name()
     }
 
     // The timetable, where it stands in the caller's bytes.
-    pub fn timetable(&self) -> &'a [u8]
-        ensures { result.now ≡ table self.now.bytes.now }
+    pub fn timetable(&self) -> &'a [u8; 21]
+        ensures { result.now ≡ table self.now.sheet.bytes.now }
     {
-        part(self.bytes, 16, 21)
+        self.sheet.timetable()
     }
 
     // How many orders there are.
     pub fn count(&self) -> usize
-        ensures value { result ≡ count_of self.now.bytes.now }
+        ensures value { result ≡ count_of self.now.sheet.bytes.now }
         ensures fits { result < 2 ^ 16 }
     {
-        usize::from(half(self.bytes, 0))
+        self.sheet.count
     }
 
     // The order of a number, counted from 0; none past the last.
     pub fn order(&self, i: usize) -> Option<Order>
-        ensures value { Shows self.now.bytes.now i result }
-        ensures read { sheet_fault self.now.bytes.now ≡ none → is_some result ≡ nat_lt i (count_of self.now.bytes.now) }
+        ensures value { Shows self.now.sheet.bytes.now i result }
+        ensures read { is_some result ≡ nat_lt i (count_of self.now.sheet.bytes.now) }
     {
-        let count = self.count();
-        if i >= count {
+        if i >= self.count() {
             return None;
         }
-        match order_at(self.bytes, count, i) {
-            Ok(o) => Some(o),
-            Err(_) => None,
-        }
+        self.sheet.order(i).ok()
     }
 }

@@ -1,6 +1,5 @@
 ghost use Rattle.std.specs.Prelude.{◌≡◌, ◌*◌, ◌^◌, ◌≤◌, ◌++◌, map, length, drop};
 ghost use Rattle.words.specs.Buffer.{Fills};
-ghost use Rattle.words.specs.Words.{Below};
 ghost use Rattle.order.specs.Views.{view, listed};
 ghost use Rattle.sheet.specs.Sheets.{head, letters, amounts, sheet};
 ghost use Rattle.sheet.specs.Views.{ReadsBack};
@@ -9,11 +8,11 @@ use faults::BufferFault;
 use order::{Order, Orders};
 use timetable::{BaseHour, Timetable};
 
-// The 37 bytes in front of the orders. That the timetable is bytes is said for the caller.
+// The 37 bytes in front of the orders.
 fn put_head(count: usize, base: u32, name: &[u8; 8], table: &[u8; 21], out: &mut [u8])
-    requires { (count ≤ 64) × (37 ≤ length out.old) }
-    ensures after { out.new ≡ head count base name.now table.now ++ drop 37 out.old }
-    ensures bytes { Below (2 ^ 8) table.now }
+    requires few { count ≤ 64 }
+    requires room { 37 ≤ length out.old }
+    ensures { out.new ≡ head count base name.now table.now ++ drop 37 out.old }
 {
     out[0..2].copy_from_slice(&(count as u16).to_be_bytes());
     out[2..4].copy_from_slice(&((37 + 5 * count) as u16).to_be_bytes());
@@ -26,17 +25,18 @@ fn put_letters(orders: &[Order], out: &mut [u8])
     requires { length orders.now ≤ length out.old }
     ensures { out.new ≡ letters (map view orders.now) ++ drop (length orders.now) out.old }
 {
-    for i in 0..orders.len() {
-        out[i] = orders[i].letter();
+    for (i, order) in orders.iter().enumerate() {
+        out[i] = order.letter();
     }
 }
 
 fn put_amounts(orders: &[Order], out: &mut [u8])
-    requires { (length orders.now ≤ 64) × (4 * length orders.now ≤ length out.old) }
+    requires few { length orders.now ≤ 64 }
+    requires room { 4 * length orders.now ≤ length out.old }
     ensures { out.new ≡ amounts (map view orders.now) ++ drop (4 * length orders.now) out.old }
 {
-    for i in 0..orders.len() {
-        out[4 * i..4 * i + 4].copy_from_slice(&orders[i].amount().to_be_bytes());
+    for (i, order) in orders.iter().enumerate() {
+        out[4 * i..4 * i + 4].copy_from_slice(&order.amount().to_be_bytes());
     }
 }
 

@@ -1,7 +1,9 @@
 -- The next open hour is there, is one, and is less than a week away. Assumes nothing.
-use Rattle.std.proofs.Common.{◌≡◌, ℕ, zero, suc, ◌+◌, ◌-◌, ◌%◌, ◌<◌, ◌≤◌, Bool, true, false, List, sym, refl, ap, ◌∙◌, inl, inr, arith}
+use Rattle.std.proofs.Common.{◌≡◌, ℕ, zero, suc, ◌+◌, ◌-◌, ◌%◌, ◌^◌, ◌<◌, ◌≤◌, Bool, true, false, List, length, replicate, slice_index, Option, Some, None, MatchBool, MatchOption, unwrap_or, sym, refl, ap, ◌∙◌, inl, inr, arith}
 use Rattle.std.proofs.lemmas.Bool.{both_ways, cases_order}
 use Rattle.std.proofs.lemmas.Bool.Decides.{Decides-below_or}
+use Rattle.std.proofs.lemmas.List.FromFn.{length-range_with_len, get_or-range_with_len}
+use Rattle.std.specs.List.{range_with_len, HoldsAt, AllWithin}
 use Rattle.timetable.specs.Hours.{bit_at, opens_at, some_open, ever_open, Next, seek, next}
 
 -- hours of the same week hour are open alike
@@ -9,22 +11,29 @@ pub same_week : (table : List ℕ) (h k : ℕ) → h % 168 ≡ k % 168 → opens
 unfolding opens_at
 same_week table h k e = ap (bit_at table) e
 
-pub some_open_more : (table : List ℕ) (n : ℕ) → opens_at table n ≡ false → some_open table n ≡ false → some_open table (n + 1) ≡ false
-unfolding some_open
-some_open_more table n e f = let g : n + 1 ≡ suc n = omega arith in rw (g, e, f)
-
 -- the check over the week's hours finds an open hour exactly where there is one
 some_open_decides : (table : List ℕ) (n : ℕ) → (some_open table n ≡ true → (k : ℕ) × (k < n) × (opens_at table k ≡ true)) × ((k : ℕ) × (k < n) × (opens_at table k ≡ true) → some_open table n ≡ true)
 unfolding some_open
 some_open_decides table n = Decides-below_or (opens_at table) (λ k. opens_at table k ≡ true) (some_open table) (λ k. (λ e. e, λ e. e)) refl (λ n. refl) n
 
-pub ever_open_from : (table : List ℕ) (k : ℕ) → k < 168 → opens_at table k ≡ true → ever_open table ≡ true
-unfolding ever_open
-ever_open_from table k h e = (some_open_decides table 168).1 (k, h, e)
+-- the hours of the week in a row
+hour_at : (k : ℕ) → k < 168 → slice_index (range_with_len 0 168) k ≡ k
+hour_at k h = get_or-range_with_len 0 168 k 0 h ∙ omega arith
 
-pub never_open : (table : List ℕ) (n : ℕ) → n ≡ 168 → some_open table n ≡ false → ever_open table ≡ false
+-- some hour of the week is open or none is, and the answer of a search says which
+pub ever_open_found : (table : List ℕ) (r : Bool) → let hours = range_with_len 0 168 in
+    MatchBool r ((k : ℕ) × (k < length hours) × HoldsAt (λ h. opens_at table h ≡ true) hours k) (AllWithin (λ h. opens_at table h ≡ false) hours 0 (length hours)) → r ≡ ever_open table
 unfolding ever_open
-never_open table n e f = ap (some_open table) (sym e) ∙ f
+ever_open_found table true (k, h, opens) =
+    let below : k < 168 = omega (arith, length-range_with_len 0 168, h) in
+    sym ((some_open_decides table 168).1 (k, below, ap (opens_at table) (sym (hour_at k below)) ∙ opens 0))
+ever_open_found table false shut = none_open (some_open table 168) refl
+  where
+    none_open : (b : Bool) → some_open table 168 ≡ b → false ≡ b
+    none_open false e = refl
+    none_open true e =
+        let (k, h, o) = (some_open_decides table 168).0 e in
+        absurd (both_ways (opens_at table k) (ap (opens_at table) (sym (hour_at k h)) ∙ shut k 0 (omega arith) (omega (arith, length-range_with_len 0 168, h))) o)
 
 open_week_hour : (table : List ℕ) → ever_open table ≡ true → (k : ℕ) × (k < 168) × (opens_at table k ≡ true)
 unfolding ever_open
@@ -112,3 +121,24 @@ last_opens table t n e ever shut =
       | inr (inl l) ↦ absurd (both_ways (opens_at table w.0) (ap (opens_at table) (sym s) ∙ shut (w.0 - t) (omega arith)) w.3)
       | inr (inr l) ↦ absurd (omega arith)
     ]
+
+-- the first open hour of those from an hour of the same week hour on, or the one behind them
+abbrev pub Found : List ℕ → ℕ → Option ℕ → Type 0
+Found table from r = MatchOption r ((k : ℕ) → 0 ≤ k → k < 167 → opens_at table (from + k) ≡ false)
+    (λ n. (0 ≤ n) × (n < 167) × (opens_at table (from + n) ≡ true) × ((k : ℕ) → 0 ≤ k → k < n → opens_at table (from + k) ≡ false))
+
+-- is the next one
+pub waits_found : (table : List ℕ) (t : ℕ) (r : Option ℕ) → ever_open table ≡ true → Found table (t % 168) r → Next table t (t + unwrap_or r 167) × (unwrap_or r 167 ≤ 167)
+waits_found table t (Some n) ever (low, high, opens, shut) = (
+  waits table t n (λ k h. same_week table (t + k) (t % 168 + k) (omega arith) ∙ shut k (omega arith) h) (same_week table (t + n) (t % 168 + n) (omega arith) ∙ opens),
+  omega arith,
+)
+waits_found table t None ever shut =
+    let all : Shut table t 167 = λ k h. same_week table (t + k) (t % 168 + k) (omega arith) ∙ shut k (omega arith) h in
+    (waits table t 167 all (last_opens table t 167 refl ever all), omega arith)
+
+-- every byte of the timetable that is open at every hour fits
+pub ones_fit : (n k : ℕ) → slice_index (replicate n 255) k < 2 ^ 8
+ones_fit zero k = omega arith
+ones_fit (suc n) zero = omega arith
+ones_fit (suc n) (suc k) = ones_fit n k

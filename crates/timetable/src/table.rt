@@ -1,4 +1,4 @@
-ghost use Rattle.std.specs.Prelude.{◌≡◌, ◌≤◌, true, length};
+ghost use Rattle.std.specs.Prelude.{◌≡◌, ℕ, ◌^◌, ◌<◌, ◌≤◌, true, length, slice_index};
 ghost use Rattle.timetable.specs.Hours.{ever_open};
 
 // The hour from which a lock's opening is counted.
@@ -13,5 +13,6 @@ pub struct BaseHour {
 pub struct Timetable {
     pub(crate) bytes: [u8; 21],
     ghost long: { length bytes ≡ 21 },
+    ghost fits: { (k : ℕ) → slice_index bytes k < 2 ^ 8 },
     ghost opens: { ever_open bytes ≡ true },
 }

@@ -1,4 +1,4 @@
-ghost use Rattle.std.specs.Prelude.{◌≡◌, ℕ, ◌+◌, ◌<◌, ◌≤◌, true, false, List, replicate, Ok, Err};
+ghost use Rattle.std.specs.Prelude.{◌≡◌, ℕ, ◌+◌, ◌<◌, ◌≤◌, true, false, List, replicate, MatchResult};
 ghost use Rattle.faults.specs.declared.grounds.TimetableFault.TheVariants.{Base, Closed};
 ghost use Rattle.timetable.specs.Hours.{bit_at, opens_at, ever_open, Next, next};
 
@@ -7,11 +7,11 @@ use faults::TimetableFault;
 
 const WEEK: u64 = 168;
 
-// The bit of an hour of the week.
-fn opens(bytes: &[u8; 21], week_hour: u64) -> bool
-    requires { week_hour < 168 }
-    ensures { result ≡ bit_at bytes.now week_hour }
+// Whether an hour is open: its bit, as an hour of the week.
+fn opens(bytes: &[u8; 21], hour: u64) -> bool
+    ensures { result ≡ opens_at bytes.now hour }
 {
+    let week_hour = hour % WEEK;
     let byte = bytes[(week_hour / 8) as usize];
     (byte >> (7 - week_hour % 8)) % 2 == 1
 }
@@ -19,25 +19,21 @@ fn opens(bytes: &[u8; 21], week_hour: u64) -> bool
 fn any_open(bytes: &[u8; 21]) -> bool
     ensures { result ≡ ever_open bytes.now }
 {
-    for w in 0..WEEK {
-        if opens(bytes, w) {
-            return true;
-        }
-    }
-    false
+    (0..WEEK).any(|hour| opens(bytes, hour))
 }
 
 impl BaseHour {
-    // A base hour, or a refusal where it is over 1,000,000.
+    // A base hour, or a refusal where it is over 1,000,000. A constructor and no `TryFrom`, beside one that takes a
+    // place.
     pub fn new(hour: u32) -> Result<BaseHour, TimetableFault>
-        ensures { elim result [ Ok b ↦ (b.hour ≡ hour) × (hour ≤ 1000000) | Err f ↦ (f ≡ Base 0) × (1000000 < hour) ] }
+        ensures { MatchResult result (λ b. (b.hour ≡ hour) × (hour ≤ 1000000)) (λ f. (f ≡ Base 0) × (1000000 < hour)) }
     {
         BaseHour::at(0, hour)
     }
 
     // The same, of an hour that stands at a byte of a sheet: the refusal tells that place.
     pub fn at(place: usize, hour: u32) -> Result<BaseHour, TimetableFault>
-        ensures { elim result [ Ok b ↦ (b.hour ≡ hour) × (hour ≤ 1000000) | Err f ↦ (f ≡ Base place) × (1000000 < hour) ] }
+        ensures { MatchResult result (λ b. (b.hour ≡ hour) × (hour ≤ 1000000)) (λ f. (f ≡ Base place) × (1000000 < hour)) }
     {
         if hour > 1_000_000 {
             return Err(TimetableFault::Base(place));
@@ -54,16 +50,16 @@ impl BaseHour {
 }
 
 impl Timetable {
-    // A timetable, or a refusal where no hour is open.
+    // A timetable, or a refusal where no hour is open. A constructor and no `TryFrom`, as above.
     pub fn new(bytes: [u8; 21]) -> Result<Timetable, TimetableFault>
-        ensures { elim result [ Ok t ↦ (t.bytes ≡ bytes) × (ever_open bytes ≡ true) | Err f ↦ (f ≡ Closed 0) × (ever_open bytes ≡ false) ] }
+        ensures { MatchResult result (λ t. (t.bytes ≡ bytes) × (ever_open bytes ≡ true)) (λ f. (f ≡ Closed 0) × (ever_open bytes ≡ false)) }
     {
         Timetable::at(0, bytes)
     }
 
     // The same, of bytes that begin at a byte of a sheet: the refusal tells that place.
     pub fn at(place: usize, bytes: [u8; 21]) -> Result<Timetable, TimetableFault>
-        ensures { elim result [ Ok t ↦ (t.bytes ≡ bytes) × (ever_open bytes ≡ true) | Err f ↦ (f ≡ Closed place) × (ever_open bytes ≡ false) ] }
+        ensures { MatchResult result (λ t. (t.bytes ≡ bytes) × (ever_open bytes ≡ true)) (λ f. (f ≡ Closed place) × (ever_open bytes ≡ false)) }
     {
         if !any_open(&bytes) {
             return Err(TimetableFault::Closed(place));
@@ -87,7 +83,7 @@ impl Timetable {
     pub fn is_open(&self, hour: u64) -> bool
         ensures { result ≡ opens_at self.now.bytes hour }
     {
-        opens(&self.bytes, hour % WEEK)
+        opens(&self.bytes, hour)
     }
 
     // How many hours it is from an hour to the next open one; none where the hour itself is open.
@@ -98,11 +94,8 @@ impl Timetable {
         ensures soon { result ≤ 167 }
     {
         let from = hour % WEEK;
-        for n in 0..167 {
-            if opens(&self.bytes, (from + n) % WEEK) {
-                return n;
-            }
-        }
-        167
+        (0..WEEK - 1)
+            .find(|n| opens(&self.bytes, from + n))
+            .unwrap_or(WEEK - 1)
     }
 }

@@ -77,9 +77,9 @@ impl<'a> Padded<'a> {
         let mut words = [0; 16];
         let from = 64 * i;
         if from + 64 <= self.message.len() {
-            read_words(&self.message[from..from + 64], &mut words);
+            let _ = read_words(&self.message[from..from + 64], &mut words);
         } else {
-            read_words(&self.tail_block(i), &mut words);
+            let _ = read_words(&self.tail_block(i), &mut words);
         }
         words
     }

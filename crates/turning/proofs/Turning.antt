@@ -1,11 +1,13 @@
 -- Turning a register on by orders, and back. Assumes nothing.
-use Rattle.std.proofs.Common.{◌≡◌, ℕ, ◌+◌, ◌-◌, ◌^◌, ◌<◌, ◌≤◌, eqb, List, [], ◌∷◌, ◌++◌, map, length, get_or, take, drop, replicate, sym, refl, ap, ◌∙◌, arith}
-use Rattle.std.proofs.lemmas.List.{drop_more, drop_all, length-append, length-replicate, length-take-le}
-use Rattle.std.proofs.lemmas.Bool.{eq-eqb, cond-true}
+use Rattle.std.proofs.Common.{◌≡◌, ℕ, ◌^◌, ◌<◌, ◌≤◌, List, [], ◌∷◌, ◌++◌, map, length, get_or, take, replicate, sym, refl, ap, ◌∙◌, arith}
+use Rattle.std.proofs.Common.{fold, reverse, Bor}
+use Rattle.std.proofs.lemmas.Grind.{reverse_onto}
+use Rattle.std.proofs.lemmas.List.{length-append, length-replicate, length-take-le}
+use Rattle.std.proofs.lemmas.List.Folds.{fold-map}
+use Rattle.std.proofs.lemmas.List.Sums.{fold_push}
 use Rattle.words.specs.Words.{Below, Row, word_bytes}
 use Rattle.words.proofs.Bytes.{below_append, below_replicate, below_take, below_from, word_bytes_below, words_below, length_words}
 use Rattle.cipher.specs.Meaning.{Meaning, Lawful}
-use Rattle.cipher.specs.Turned as cipher
 use Rattle.order.specs.Orders.{Order, InRange, AllInRange, key_bytes, key}
 use Rattle.order.specs.Views.{view}
 use Rattle.order.specs.declared.kind.Order as code
@@ -65,31 +67,23 @@ module _ (m : Meaning) (law : Lawful m) (name : List ℕ) (named : Name name) wh
   replaced r xs ys zs p q row =
       back_append m name _ xs zs ∙ ap (λ x. back m name x xs) (back_turned _ zs q (back_row r ys p row)) ∙ sym (back_append m name r xs ys)
 
--- ---- a turn of each loop
+-- ---- the same over the orders of the code, one after the other
 
-pub back_more : (m : Meaning) (name r s t k : List ℕ) (os : List code.Order) (i : ℕ) (o : code.Order) → 0 < i → i ≤ length os → o ≡ get_or os (i - 1) o → k ≡ key name (view o) → length s ≡ m.width
-    → s ≡ back m name r (map view (drop i os)) → t ≡ cipher.turned m.width (m.dec k) s → t ≡ back m name r (map view (drop (i - 1) os))
-unfolding back
-back_more m name r s t k os i o p q at key-is long e f =
-    let lt : i - 1 < length os = omega arith in
-    let one : i - 1 + 1 ≡ i = omega arith in
-    f
-    ∙ cond-true (eqb (length s) m.width) _ _ (eq-eqb (length s) m.width long)
-    ∙ (λ j. m.dec (key-is j) (e j))
-    ∙ (λ j. back m name r (view (at j) ∷ map view (drop (sym one j) os)))
-    ∙ ap (λ xs. back m name r (map view xs)) (sym (drop_more os (i - 1) o lt))
+module _ (m : Meaning) (name r new : List ℕ) (os : List code.Order) (xs : List (Bor code.Order)) where
+  turned_fold : (s : List ℕ) (ys : List code.Order) → fold (λ t o. m.enc (key name (view o)) t) s ys ≡ turned m name s (map view ys)
+  unfolding turned
+  turned_fold s [] = refl
+  turned_fold s (y ∷ ys) = turned_fold (m.enc (key name (view y)) s) ys
 
-pub turned_more : (m : Meaning) (name s t k rest : List ℕ) (os : List code.Order) (i : ℕ) (o : code.Order) → i < length os → o ≡ get_or os i o → k ≡ key name (view o) → length s ≡ m.width
-    → turned m name s (map view (drop i os)) ≡ rest → t ≡ cipher.turned m.width (m.enc k) s → turned m name t (map view (drop (i + 1) os)) ≡ rest
-unfolding turned
-turned_more m name s t k rest os i o lt at key-is long e f =
-    let step : t ≡ m.enc (key name (view (get_or os i o))) s = f ∙ cond-true (eqb (length s) m.width) _ _ (eq-eqb (length s) m.width long) ∙ (λ j. m.enc (key-is j) s) ∙ (λ j. m.enc (key name (view (at j))) s) in
-    ap (λ x. turned m name x (map view (drop (i + 1) os))) step ∙ ap (λ xs. turned m name s (map view xs)) (sym (drop_more os i o lt)) ∙ e
+  back_fold : (ys : List code.Order) → fold (λ t o. m.dec (key name (view o)) t) r (reverse ys) ≡ back m name r (map view ys)
+  unfolding back
+  back_fold [] = refl
+  back_fold (y ∷ ys) =
+      let f : List ℕ → code.Order → List ℕ = λ t o. m.dec (key name (view o)) t in
+      ap (fold f r) (reverse_onto ys y []) ∙ fold_push f r (reverse ys) y ∙ ap (m.dec (key name (view y))) (back_fold ys)
 
-pub back_none : (m : Meaning) (name r : List ℕ) (os : List code.Order) (i : ℕ) → length os ≤ i → r ≡ back m name r (map view (drop i os))
-unfolding back
-back_none m name r os i h = sym (ap (λ xs. back m name r (map view xs)) (drop_all i os h))
+  pub turned_along : map (λ o. o.now) xs ≡ os → new ≡ fold (λ t o. m.enc (key name (view o.now)) t) r xs → new ≡ turned m name r (map view os)
+  turned_along is e = e ∙ sym (fold-map (λ t o. m.enc (key name (view o)) t) (λ o. o.now) r xs) ∙ ap (fold (λ t o. m.enc (key name (view o)) t) r) is ∙ turned_fold r os
 
-pub turned_none : (m : Meaning) (name r rest : List ℕ) (os : List code.Order) (i : ℕ) → length os ≤ i → turned m name r (map view (drop i os)) ≡ rest → r ≡ rest
-unfolding turned
-turned_none m name r rest os i h e = sym (ap (λ xs. turned m name r (map view xs)) (drop_all i os h)) ∙ e
+  pub back_along : map (λ o. o.now) xs ≡ reverse os → new ≡ fold (λ t o. m.dec (key name (view o.now)) t) r xs → new ≡ back m name r (map view os)
+  back_along is e = e ∙ sym (fold-map (λ t o. m.dec (key name (view o)) t) (λ o. o.now) r xs) ∙ ap (fold (λ t o. m.dec (key name (view o)) t) r) is ∙ back_fold os

@@ -2,30 +2,22 @@
 use Rattle.std.proofs.Common.{◌≡◌, ℕ, zero, suc, ◌+◌, ◌-◌, ◌*◌, ◌^◌, ◌<◌, ◌≤◌, List, [], ◌∷◌, ◌++◌, length, get_or, take, drop, set, Ok, Err, Result, sym, refl, ap, ◌∙◌, arith}
 use borrow.Rule.Slice.PartMut.{put_mid, post_of, Post-is}
 use Rattle.std.proofs.lemmas.List.{append_assoc, append-nil, take_more, take_all, take_at, drop-drop, drop_at, take_more_same, length-take-le, get_or-set_same, take-set, length-set, drop_all}
+use Rattle.std.specs.Simd.{first_chunks}
 use Rattle.faults.specs.declared.grounds.BufferFault.{BufferFault}
 use Rattle.words.specs.Buffer.{Fills}
 use Rattle.words.specs.Words.{word_bytes, bytes, words}
 use Rattle.words.proofs.Bytes.{length_words}
 
--- four places on
-past : (a b c d : ℕ) (bs : List ℕ) (i m : ℕ) → m ≡ 4 + i → get_or (a ∷ b ∷ c ∷ d ∷ bs) m 0 ≡ get_or bs i 0
-past a b c d bs i m e = let f : m ≡ suc (suc (suc (suc i))) = omega arith in ap (λ n. get_or (a ∷ b ∷ c ∷ d ∷ bs) n 0) f
-
--- the word at a place
-pub word_at : (q i : ℕ) (bs : List ℕ) → length bs ≡ 4 * q → i < q → get_or (words bs) i 0 ≡ get_or bs (4 * i) 0 * 2 ^ 24 + get_or bs (4 * i + 1) 0 * 2 ^ 16 + get_or bs (4 * i + 2) 0 * 2 ^ 8 + get_or bs (4 * i + 3) 0
-word_at zero i bs e h = absurd (omega arith)
-word_at (suc q) i [] e h = absurd (omega arith)
-word_at (suc q) i (a ∷ []) e h = absurd (omega arith)
-word_at (suc q) i (a ∷ b ∷ []) e h = absurd (omega arith)
-word_at (suc q) i (a ∷ b ∷ c ∷ []) e h = absurd (omega arith)
-word_at (suc q) zero (a ∷ b ∷ c ∷ d ∷ bs) e h = refl
-word_at (suc q) (suc i) (a ∷ b ∷ c ∷ d ∷ bs) e h =
-    let ih = word_at q i bs (omega arith) (omega arith) in
-    let x = past a b c d bs (4 * i) (4 * suc i) (omega arith) in
-    let y = past a b c d bs (4 * i + 1) (4 * suc i + 1) (omega arith) in
-    let z = past a b c d bs (4 * i + 2) (4 * suc i + 2) (omega arith) in
-    let u = past a b c d bs (4 * i + 3) (4 * suc i + 3) (omega arith) in
-    rw (x, y, z, u) ih
+-- the word at a place is that of the four bytes there
+pub word_at : (q i : ℕ) (bs four : List ℕ) → length bs ≡ 4 * q → i < q → get_or (first_chunks 4 q bs) i [] ≡ four
+    → get_or (words bs) i 0 ≡ get_or four 0 0 * 2 ^ 24 + get_or four 1 0 * 2 ^ 16 + get_or four 2 0 * 2 ^ 8 + get_or four 3 0
+word_at zero i bs four e h g = absurd (omega arith)
+word_at (suc q) i [] four e h g = absurd (omega arith)
+word_at (suc q) i (a ∷ []) four e h g = absurd (omega arith)
+word_at (suc q) i (a ∷ b ∷ []) four e h g = absurd (omega arith)
+word_at (suc q) i (a ∷ b ∷ c ∷ []) four e h g = absurd (omega arith)
+word_at (suc q) zero (a ∷ b ∷ c ∷ d ∷ bs) four e h g = ap (λ z. get_or z 0 0 * 2 ^ 24 + get_or z 1 0 * 2 ^ 16 + get_or z 2 0 * 2 ^ 8 + get_or z 3 0) g
+word_at (suc q) (suc i) (a ∷ b ∷ c ∷ d ∷ bs) four e h g = word_at q i bs four (omega arith) (omega arith) g
 
 -- one more word read
 pub read_more : (bs out : List ℕ) (i v : ℕ) → length bs ≡ 4 * length out → i < length out → take i out ≡ take i (words bs) → v ≡ get_or (words bs) i 0 → take (i + 1) (set out i v) ≡ take (i + 1) (words bs)

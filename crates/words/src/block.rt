@@ -1,4 +1,5 @@
-// One to eight words by value: a cipher's initial value, a chaining value, a digest.
+// One to eight words by value: a cipher's initial value, a chaining value, a digest. An array with a count, since there
+// is no heap here, and the kit's vector of fixed room (`arrayvec`) is not `Copy`, which these are.
 ghost use Rattle.std.specs.Prelude.{◌≡◌, ◌-◌, ◌≤◌, length, drop, replicate};
 
 #[derive(Clone, Copy, Debug)]

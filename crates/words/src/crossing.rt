@@ -1,27 +1,24 @@
 // Words from bytes and bytes from words.
-ghost use Rattle.std.specs.Prelude.{◌≡◌, ◌*◌, length, if◌then◌else◌, ◌==◌, nat_eq};
+ghost use Rattle.std.specs.Prelude.{◌≡◌, ◌*◌, length, if◌then◌else◌, nat_eq, Ok, Err};
+ghost use Rattle.faults.specs.declared.grounds.CipherFault.TheVariants as CipherFault;
 ghost use Rattle.words.specs.Words.{bytes as bytes_of, words as words_of};
 ghost use Rattle.words.specs.Buffer.{Fills};
 
-use faults::BufferFault;
+use faults::{BufferFault, CipherFault};
 
-// Reads words out of exactly as many bytes, or answers false and leaves the words as they were.
-pub fn read_words(bytes: &[u8], out: &mut [u32]) -> bool
-    ensures answer { result ≡ (length bytes.now == 4 * length out.old) }
+// Reads words out of exactly as many bytes. Words that are more or fewer are refused and stay as they were.
+pub fn read_words(bytes: &[u8], out: &mut [u32]) -> Result<(), CipherFault>
+    ensures answer { result ≡ (if nat_eq (length bytes.now) (4 * length out.old) then Ok tt else Err CipherFault.Block) }
     ensures out { out.new ≡ (if nat_eq (length bytes.now) (4 * length out.old) then words_of bytes.now else out.old) }
 {
     if bytes.len() != 4 * out.len() {
-        return false;
+        return Err(CipherFault::Block);
     }
-    for i in 0..out.len() {
-        out[i] = u32::from_be_bytes([
-            bytes[4 * i],
-            bytes[4 * i + 1],
-            bytes[4 * i + 2],
-            bytes[4 * i + 3],
-        ]);
+    let (fours, _) = bytes.as_chunks::<4>();
+    for (i, word) in out.iter_mut().enumerate() {
+        *word = u32::from_be_bytes(fours[i]);
     }
-    true
+    Ok(())
 }
 
 // Writes the words' bytes to the front of a buffer and answers how many they are.
@@ -32,8 +29,8 @@ pub fn put_words(words: &[u32], out: &mut [u8]) -> Result<usize, BufferFault>
     if out.len() < n {
         return Err(BufferFault::Short);
     }
-    for i in 0..words.len() {
-        out[4 * i..4 * i + 4].copy_from_slice(&words[i].to_be_bytes());
+    for (i, word) in words.iter().enumerate() {
+        out[4 * i..4 * i + 4].copy_from_slice(&word.to_be_bytes());
     }
     Ok(n)
 }

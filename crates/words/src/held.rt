@@ -3,29 +3,20 @@ ghost use Rattle.std.specs.Prelude.{◌≡◌, ◌-◌, ◌<◌, ◌≤◌, true
 ghost use Rattle.words.specs.Blocks.{held};
 
 use crate::block::Block;
-
-// The words, and zeros behind them up to eight.
-fn filled(words: &[u32]) -> [u32; 8]
-    requires { length words.now ≤ 8 }
-    ensures { result ≡ words.now ++ replicate (8 - length words.now) 0 }
-{
-    let mut all = [0; 8];
-    all[0..words.len()].copy_from_slice(words);
-    all
-}
+use crate::padding::padded;
 
 impl Block {
-    // The block of these words, or none where they are not one to eight.
+    // The block of these words, or none where they are not one to eight. No `TryFrom`: it would need an error that no
+    // refusal tells.
     pub fn of(words: &[u32]) -> Option<Block>
         ensures { MatchOption result ((1 ≤ length words.now → 8 < length words.now)) (λ b. held b ≡ words.now) }
     {
-        let count = words.len();
-        if count < 1 || 8 < count {
+        if words.is_empty() {
             return None;
         }
         Some(Block {
-            words: filled(words),
-            count,
+            words: padded(words, 0)?,
+            count: words.len(),
         })
     }
 

@@ -1,4 +1,4 @@
-// A byte in hexadecimal digits.
+// A byte in hexadecimal digits. By hand, since there is no heap here: the kit's `hex` makes a `String`.
 ghost use Rattle.std.specs.Prelude.{◌≡◌, ◌/◌, ◌%◌, ◌<◌, [], ◌∷◌};
 ghost use Rattle.words.specs.Hex.{digit as digitOf};
 

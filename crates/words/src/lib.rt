@@ -10,12 +10,14 @@ mod block;
 mod crossing;
 mod held;
 mod hex;
+mod padding;
 mod sums;
 
 pub use bits::{choose, majority};
 pub use block::Block;
 pub use crossing::{put_words, read_words};
 pub use hex::hex_digits;
+pub use padding::padded;
 pub use sums::add_words;
 
 // Writes bytes to the front of a buffer and answers how many they are.

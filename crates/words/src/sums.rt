@@ -1,17 +1,20 @@
 // Rows of words added.
-ghost use Rattle.std.specs.Prelude.{◌≡◌, length, if◌then◌else◌, ◌==◌, nat_eq};
+ghost use Rattle.std.specs.Prelude.{◌≡◌, length, if◌then◌else◌, nat_eq, Ok, Err};
+ghost use Rattle.faults.specs.declared.grounds.CipherFault.TheVariants as CipherFault;
 ghost use Rattle.words.specs.Steps.{added};
 
-// Adds as many words, one by one, or answers false and leaves the words as they were.
-pub fn add_words(onto: &mut [u32], more: &[u32]) -> bool
-    ensures answer { result ≡ (length onto.old == length more.now) }
+use faults::CipherFault;
+
+// Adds as many words, one by one. A row of another length is refused, and the words stay as they were.
+pub fn add_words(onto: &mut [u32], more: &[u32]) -> Result<(), CipherFault>
+    ensures answer { result ≡ (if nat_eq (length onto.old) (length more.now) then Ok tt else Err CipherFault.Block) }
     ensures onto { onto.new ≡ (if nat_eq (length onto.old) (length more.now) then added onto.old more.now else onto.old) }
 {
     if onto.len() != more.len() {
-        return false;
+        return Err(CipherFault::Block);
     }
-    for i in 0..onto.len() {
-        onto[i] = onto[i].wrapping_add(more[i]);
+    for (i, word) in onto.iter_mut().enumerate() {
+        *word = word.wrapping_add(more[i]);
     }
-    true
+    Ok(())
 }

@@ -9,8 +9,8 @@ pub returns : goal.returns
 unfolding sheet_opening
 returns c =
     let bs = c.args.sheet.now in
-    let is = c.in_ok-reader.ensures.0 in
+    let is = c.in_ok-reader.ensures.opened.0 in
     let hour : c.in_ok-base.base.hour ≡ base bs = c.in_ok-base.ensures.0 ∙ c.base_hour.ensures ∙ ap base is in
-    let week : c.in_ok-timetable.timetable.bytes ≡ table bs = c.in_ok-timetable.ensures.0 ∙ c.table_of.ensures ∙ ap table is in
+    let week : c.in_ok-timetable.timetable.bytes ≡ table bs = c.in_ok-timetable.ensures.0 ∙ c.timetable.ensures ∙ ap table is in
     let lines : listed c.load.result ≡ orders bs = c.load.ensures ∙ ap orders is in
-    (c.in_ok-reader.ensures.1.accepted.faultless, c.opening.ensures.value ∙ (λ i. opening (week i) (hour i) (lines i)))
+    (c.in_ok-reader.ensures.opened.1.accepted.faultless, c.opening.ensures.value ∙ (λ i. opening (week i) (hour i) (lines i)))

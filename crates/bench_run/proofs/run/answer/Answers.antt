@@ -1,36 +1,49 @@
-use Rattle.std.proofs.Common.{◌<◌, ◌≤◌, length, rules}
+use Rattle.std.proofs.Common.{◌≡◌, ◌<◌, ◌≤◌, length, get_or, rules}
+use mathlib.Core.Option.{none}
 use Rattle.std.proofs.lemmas.List.{take_rest}
 use Rattle.std.proofs.lemmas.Result.{err_from_is_err_and}
-use Rattle.bench_run.proofs.Outcomes.{no_input, no_mark, no_register, bad_sheet, good_sheet}
+use Rattle.bench_io.specs.Marks.{register_length}
+use Rattle.bench_io.proofs.ByMark.{by_mark}
+use Rattle.faults.specs.declared.grounds.CipherFault.TheVariants.{Block}
+use Rattle.bench_run.proofs.Outcomes.{no_input, no_mark, registered, no_register, bad_sheet, good_sheet}
 use Rattle.bench_run.proofs.run.answer.Goals as goal
 
 pub returns-in_default : goal.returns-in_default
 returns-in_default c = let h : length c.args.input.now < 1 = search rules in no_input c.args.input.now h
 
-pub returns-in_err-n : goal.returns-in_err-n
-returns-in_err-n c =
+pub returns-in_err-try_from : goal.returns-in_err-try_from
+returns-in_err-try_from c =
+    let input = c.args.input.now in
     let p = err_from_is_err_and c.from_residual.result c.from_residual.ensures.1 in
-    let some : 1 ≤ length c.args.input.now = search rules in
-    let refused = c.in_err-n.ensures in
-    rw (p.1, p.2, refused.0) (no_mark c.args.input.now some refused.1)
+    let some_byte : 1 ≤ length input = search rules in
+    let refused = c.in_err-try_from.ensures in
+    rw (p.1, p.2, refused.0) (no_mark input some_byte (by_mark register_length (get_or input 0 0) none refused.1))
 
-pub returns-in_err-sheet : goal.returns-in_err-sheet
-returns-in_err-sheet c =
-    let p = err_from_is_err_and c.from_residual-in_err-sheet.result c.from_residual-in_err-sheet.ensures.1 in
-    let some : 1 ≤ length c.args.input.now = search rules in
-    let refused = c.in_err-sheet.ensures in
-    rw (p.1, p.2, refused.0) (no_register c.args.input.now _ some c.in_ok-n.ensures _ (take_rest c.args.input.now 1) refused.1)
+pub returns-in_err-_register : goal.returns-in_err-_register
+returns-in_err-_register c =
+    let input = c.args.input.now in
+    let p = err_from_is_err_and c.from_residual-in_err-_register.result c.from_residual-in_err-_register.ensures.1 in
+    let some_byte : 1 ≤ length input = search rules in
+    let marked = registered (get_or input 0 0) _ _ c.in_ok-try_from.ensures c.register_length-n.ensures in
+    let short = rw c.in_err-_register.ensures.ok_part at c.split_at_checked.ensures.cases in
+    let fault = rw c.in_err-_register.ensures.ok_part at c.in_err-_register.ensures.value in
+    let block : c.in_err-_register.field-0.0 ≡ Block = cc fault in
+    rw (p.1, p.2, block) (no_register input _ some_byte marked _ (take_rest input 1) short)
 
 pub returns-in_err-opening : goal.returns-in_err-opening
 returns-in_err-opening c =
+    let input = c.args.input.now in
     let p = err_from_is_err_and c.from_residual-in_err-opening.result c.from_residual-in_err-opening.ensures.1 in
-    let some : 1 ≤ length c.args.input.now = search rules in
-    let register = c.in_ok-sheet.ensures in
-    rw (p.1, p.2) (bad_sheet c.args.input.now _ some c.in_ok-n.ensures _ _ _ (take_rest c.args.input.now 1) register.0 register.1 c.in_err-opening.ensures)
+    let some_byte : 1 ≤ length input = search rules in
+    let marked = registered (get_or input 0 0) _ _ c.in_ok-try_from.ensures c.register_length-n.ensures in
+    let split = rw c.in_ok-_register.ensures.ok_part at c.split_at_checked.ensures.cases in
+    rw (p.1, p.2) (bad_sheet input _ some_byte marked _ _ _ (take_rest input 1) split.0 split.2 c.in_err-opening.ensures)
 
 pub returns : goal.returns
 returns c =
-    let some : 1 ≤ length c.args.input.now = search rules in
-    let register = c.in_ok-sheet.ensures in
+    let input = c.args.input.now in
+    let some_byte : 1 ≤ length input = search rules in
+    let marked = registered (get_or input 0 0) _ _ c.in_ok-try_from.ensures c.register_length-n.ensures in
+    let split = rw c.in_ok-_register.ensures.ok_part at c.split_at_checked.ensures.cases in
     let good = c.in_ok-opening.ensures in
-    good_sheet c.args.input.now _ some c.in_ok-n.ensures _ _ _ (take_rest c.args.input.now 1) register.0 register.1 good.0 good.1
+    good_sheet input _ some_byte marked _ _ _ (take_rest input 1) split.0 split.2 good.0 good.1

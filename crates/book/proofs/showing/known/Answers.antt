@@ -1,5 +1,4 @@
 use Rattle.std.proofs.Common.{arith}
-use Rattle.words.proofs.Bytes.{below_from}
 use Rattle.turning.proofs.Turning.{name_from, front_from}
 use Rattle.book.proofs.showing.known.Goals as goal
 
@@ -8,6 +7,5 @@ returns g c =
     let law = g.met.C.Cipher.lawful c.args.cipher.now in
     record {
       named = name_from c.args.name.now c.told-name c.fits-name;
-      tabled = below_from 256 c.args.table.now c.fits-table;
       row = front_from _ c.args.register.now (omega (arith, law.most)) c.fits-register;
     }

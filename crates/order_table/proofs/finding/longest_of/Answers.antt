@@ -1,17 +1,20 @@
-use Rattle.std.proofs.Common.{◌≡◌, sym, arith, rules}
-use Rattle.order_table.proofs.Best.{best_none, best_longer, best_stays}
+use Rattle.std.proofs.Common.{sym, subst}
+use Rattle.order_table.proofs.Best.{Searched, searched_none, searched_more, searched_all}
 use Rattle.order_table.proofs.finding.longest_of.Goals as goal
 
-pub loop-i-init : goal.loop-i-init
-loop-i-init c = search (rules, best_none)
+pub loop-line-init : goal.loop-line-init
+loop-line-init c = (searched_none c.args.lines.now, tt)
 
-pub loop-i-preserved-then-h-most : goal.loop-i-preserved-then-h-most
-loop-i-preserved-then-h-most c = search (rules, best_longer)
-
-pub loop-i-preserved : goal.loop-i-preserved
-loop-i-preserved c = search (rules, best_stays)
+pub loop-line-preserved : goal.loop-line-preserved
+loop-line-preserved c =
+    let longest = c.or_longer-longest.ensures in
+    let (searched, hours) = c.loop-line.invariant in (
+      subst (Searched c.args.lines.now c.in-Some.before.now) (sym longest.value)
+          (searched_more c.args.lines.now c.loop-line.rest.now c.in-Some.before.now c.in-Some.line.now _ searched c.in-Some.ensures.cases.0),
+      longest.hours,
+    )
 
 pub returns : goal.returns
 returns c =
-    let z : c.loop-i.i ≡ 0 = omega arith in
-    sym (rw z at c.loop-i.invariant)
+    let (searched, hours) = c.loop-line.invariant in
+    record { hours = hours; value = searched_all c.args.lines.now c.loop-line.rest.now _ c.in_default.ensures.cases searched }

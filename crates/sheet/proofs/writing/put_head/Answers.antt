@@ -1,6 +1,5 @@
 use Rattle.std.proofs.Common.{◌≡◌, ◌+◌, ◌*◌, ◌++◌, length, drop, ap, ◌∙◌}
 use Rattle.words.specs.Words.{word_bytes}
-use Rattle.words.proofs.Bytes.{below_from}
 use Rattle.sheet.specs.Sheets.{half_bytes}
 use Rattle.sheet.proofs.Puts.{put_five}
 use Rattle.sheet.proofs.writing.put_head.Goals as goal
@@ -12,8 +11,5 @@ returns c =
     let base : c.copy_from_slice-3.new.self ≡ word_bytes c.args.base = c.copy_from_slice-3.ensures.after ∙ c.to_be_bytes-3.ensures in
     let name : c.copy_from_slice-4.new.self ≡ c.args.name.now = c.copy_from_slice-4.ensures.after in
     let table : c.copy_from_slice-5.new.self ≡ c.args.table.now = c.copy_from_slice-5.ensures.after in
-    record {
-      after = put_five c.args.out.now _ _ _ _ _ (ap length count) (ap length total) (ap length base) (ap length name ∙ c.told-name)
-          ∙ (λ i. count i ++ total i ++ base i ++ name i ++ table i ++ drop 37 c.args.out.now);
-      bytes = below_from 256 c.args.table.now c.fits-table;
-    }
+    put_five c.args.out.now _ _ _ _ _ (ap length count) (ap length total) (ap length base) (ap length name ∙ c.told-name)
+    ∙ (λ i. count i ++ total i ++ base i ++ name i ++ table i ++ drop 37 c.args.out.now)

@@ -1,17 +1,12 @@
-use Rattle.std.proofs.Common.{sym, refl, ◌∙◌, arith}
-use Rattle.timetable.specs.Hours.{some_open}
-use Rattle.timetable.proofs.Hours.{opens_bit, some_open_more, ever_open_from, never_open}
+use Rattle.std.proofs.Common.{◌≡◌, true, false, refl, rules}
+use Rattle.std.proofs.lemmas.Iterator.{cases_from_any, YieldsList-from_range}
+use borrow.Author.Tests.{tests}
+use Rattle.timetable.specs.Hours.{opens_at}
+use Rattle.timetable.proofs.Hours.{ever_open_found}
 use Rattle.timetable.proofs.week.any_open.Goals as goal
 
-pub loop-w-init : goal.loop-w-init
-unfolding some_open
-loop-w-init c = refl
-
-pub loop-w-preserved : goal.loop-w-preserved
-loop-w-preserved c = some_open_more c.args.bytes.now c.loop-w.w (opens_bit _ _ _ (omega arith) ∙ sym c.opens.ensures ∙ c.if-opens.false) c.loop-w.invariant
-
-pub returns-then-opens : goal.returns-then-opens
-returns-then-opens c = sym (ever_open_from c.args.bytes.now c.loop-w.w (omega arith) (opens_bit _ _ _ (omega arith) ∙ sym c.opens.ensures ∙ c.if-opens.true))
-
 pub returns : goal.returns
-returns c = sym (never_open c.args.bytes.now c.loop-w.w (omega arith) c.loop-w.invariant)
+returns c =
+    let table = c.args.bytes.now in
+    ever_open_found table c.any.result (cases_from_any _ _ _ (λ h. opens_at table h ≡ true) (λ h. opens_at table h ≡ false) c.any.ensures.ran
+    (YieldsList-from_range 0 168 168 refl refl) (λ x q k. search (rules, tests)) (λ x q k. search (rules, tests)))

@@ -1,4 +1,5 @@
-use Rattle.std.proofs.Common.{cond, length, sym, refl, ap, ◌∙◌, arith, eq-eqb}
+use Rattle.std.proofs.Common.{Ok, Err, cond, length, sym, refl, ap, ◌∙◌, arith, eq-eqb}
+use Rattle.faults.specs.declared.grounds.CipherFault.TheVariants.{Block}
 use Rattle.words.specs.Steps.{added}
 use Rattle.words.proofs.Summed.{summed_more, summed_all}
 use Rattle.words.proofs.sums.add_words.Goals as goal
@@ -15,6 +16,6 @@ returns c =
     let ys = c.args.more.now in
     let t = eq-eqb (length xs) (length ys) (omega arith) in
     record {
-      answer = sym t;
+      answer = sym (ap (λ z. cond z (Ok tt) (Err Block)) t);
       onto = summed_all xs ys c.loop-i.onto c.loop-i.i (omega arith) (omega arith) (omega arith) c.loop-i.invariant ∙ sym (ap (λ z. cond z (added xs ys) xs) t);
     }

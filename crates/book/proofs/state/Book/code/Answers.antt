@@ -1,16 +1,25 @@
-use Rattle.std.proofs.Common.{take, ◌∙◌, arith}
-use Rattle.order_table.specs.Views.{lines_of}
-use Rattle.ledger.proofs.Shown.{register_is}
-use Rattle.book.proofs.Asked.{code_is}
-use Rattle.book.proofs.Done.{fits}
+use Rattle.std.proofs.Common.{◌%◌, get_or, ap, refl, ◌∙◌, arith}
+use Rattle.words.specs.Words.{bytes}
+use Rattle.words.proofs.Crossed.{length_bytes}
+use Rattle.hash.specs.Digests.{digest}
+use Rattle.ledger.specs.Ledgers.{register}
+use Rattle.book.specs.Told.{told}
+use Rattle.book.proofs.Asked.{code_is, front_is, block_first, held_some}
 use Rattle.book.proofs.state.Book.code.Goals as goal
+
+pub unreachable-requires : goal.unreachable-requires
+unreachable-requires g c =
+    let b = c.args.self.now in
+    let m = g.C.Cipher.meaning b.cipher in
+    let law = g.met.C.Cipher.lawful b.cipher in
+    let short = c.in_default.ensures in
+    omega (arith, law.most, short.fills.1, short.wide, length_bytes (register m (told m b)))
 
 pub returns : goal.returns
 returns g c =
     let b = c.args.self.now in
     let m = g.C.Cipher.meaning b.cipher in
-    let law = g.met.C.Cipher.lawful b.cipher in
-    record {
-      value = c.code_of.ensures ∙ code_is m _ _ (register_is m law b.name c.known.ensures.named b.base.hour b.timetable.bytes (take m.width b.register) c.known.ensures.row (lines_of b.table) (fits b));
-      bound = omega (arith, c.code_of.ensures);
-    }
+    let bytes_are = front_is (bytes (register m (told m b))) _ c.register.new.out c.in-Ok.n c.in-Ok.ensures.fills in
+    let d = c.digest.result in
+    let first = block_first d c.eight.result c.eight.ensures (held_some d) ∙ ap (λ ws. get_or ws 0 0) (c.digest.ensures.value ∙ ap (digest m) bytes_are) in
+    record { value = ap (λ w. w % 1000000) first ∙ code_is m (told m b) _ refl; bound = omega arith }

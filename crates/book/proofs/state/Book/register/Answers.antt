@@ -11,6 +11,6 @@ returns g c =
     let b = c.args.self.now in
     let m = g.C.Cipher.meaning b.cipher in
     let law = g.met.C.Cipher.lawful b.cipher in
-    let P : List ℕ → Type 0 = λ ws. Fills (bytes ws) c.args.out.now c.show_register.new.out c.show_register.result in
+    let P : List ℕ → Type 0 = λ ws. Fills (bytes ws) c.args.out.now c.put_words.new.out c.put_words.result in
     let is = register_is m law b.name c.known.ensures.named b.base.hour b.timetable.bytes (take m.width b.register) c.known.ensures.row (lines_of b.table) (fits b) in
-    record { fills = subst P (sym is) c.show_register.ensures; wide = ap length is ∙ c.known.ensures.row.long }
+    record { fills = subst P (ap (λ n. take n b.register) c.width-width.ensures ∙ sym is) c.put_words.ensures; wide = ap length is ∙ c.known.ensures.row.long }

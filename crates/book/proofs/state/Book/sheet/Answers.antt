@@ -1,5 +1,5 @@
 use Rattle.std.proofs.Common.{ℕ, List, take, subst}
-use Rattle.words.specs.Words.{Below}
+use Rattle.words.proofs.Bytes.{below_from}
 use Rattle.words.specs.Buffer.{Fills}
 use Rattle.order_table.specs.Views.{lines_of}
 use Rattle.ledger.proofs.Shown.{is_sound}
@@ -17,5 +17,5 @@ returns g c =
     record {
       fills = subst P (sheet_is m b.name b.base.hour b.timetable.bytes r (lines_of b.table) _ c.in_force.ensures) c.write.ensures.fills;
       sound = is_sound m law b.name c.known.ensures.named b.base.hour b.timetable.bytes r c.known.ensures.row (lines_of b.table) (fits b)
-          b.base.most (b.timetable.long, subst (Below 256) c.bytes.ensures c.known.ensures.tabled) b.timetable.opens (few b);
+          b.base.most (b.timetable.long, below_from 256 b.timetable.bytes b.timetable.fits) b.timetable.opens (few b);
     }

@@ -1,15 +1,9 @@
-use Rattle.std.proofs.Common.{arith}
-use Rattle.std.proofs.lemmas.List.{length-set}
-use Rattle.order_table.proofs.Lined.{length_lines, fault, marks, numbers, leaves}
+use Rattle.std.proofs.Common.{◌+◌, ◌-◌, map, length, drop, ap, ◌∙◌, arith}
+use Rattle.std.proofs.lemmas.List.{take_all, length-drop}
+use Rattle.order_table.specs.Lines.{orders}
+use Rattle.order_table.specs.Views.{view}
+use Rattle.order_table.proofs.Lined.{fault, marks, numbers, leaves}
 use Rattle.order_table.proofs.line.Table.undo.Goals as goal
-
-pub in_force_from-requires : goal.in_force_from-requires
-in_force_from-requires c =
-    let t = c.args.self.now in
-    let found = c.in_ok-at.ensures in
-    let l = length_lines c.lines.result.now t.lines t.count c.lines.ensures.value (omega arith) in
-    let k = length_lines c.lines-2.result.now _ t.count c.lines-2.ensures.value (simp length-set (omega arith)) in
-    (omega (arith, found.1), omega arith)
 
 pub returns : goal.returns
 returns c =
@@ -24,5 +18,6 @@ returns c =
       fault t.count t.lines us vs c.args.number i d e same found,
       marks t.count t.lines us vs c.args.number i d e same found,
       numbers t.count t.lines us vs c.args.number i d e same found,
-      leaves t.count t.lines us vs c.args.number i d e same found _ c.lines-2.ensures.value c.in_force_from.ensures,
+      leaves t.count t.lines us vs c.args.number i d e same found _ c.lines-2.ensures.value
+          (c.in_force_of.ensures ∙ ap (λ xs. orders (map view xs)) (take_all (length vs - (i + 1)) (drop (i + 1) vs) (simp length-drop (omega arith)))),
     )

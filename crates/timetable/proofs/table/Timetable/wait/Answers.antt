@@ -1,33 +1,21 @@
-use Rattle.std.proofs.Common.{◌≡◌, ◌+◌, true, sym, ◌∙◌, arith, below_more}
-use Rattle.timetable.specs.Hours.{opens_at}
-use Rattle.timetable.proofs.Hours.{opens_bit, waits, waits_next, next_once, last_opens}
+use Rattle.std.proofs.Common.{◌≡◌, ◌+◌, ◌%◌, true, false, rules}
+use Rattle.std.proofs.lemmas.Iterator.{first_from_Range}
+use borrow.Author.Tests.{tests}
+use Rattle.timetable.specs.Hours.{opens_at, Next}
+use Rattle.timetable.proofs.Hours.{waits_found, waits_next, next_once}
 use Rattle.timetable.proofs.table.Timetable.wait.Goals as goal
-
-pub loop-n-preserved : goal.loop-n-preserved
-loop-n-preserved c = below_more _ _ c.loop-n.invariant (opens_bit _ _ _ (omega arith) ∙ sym c.opens.ensures ∙ c.if-opens.false)
-
-pub returns-then-opens : goal.returns-then-opens
-returns-then-opens c =
-    let table = c.args.self.now.bytes in
-    let opens : opens_at table (c.args.hour + c.loop-n.n) ≡ true = opens_bit _ _ _ (omega arith) ∙ sym c.opens.ensures ∙ c.if-opens.true in
-    let least = waits table c.args.hour c.loop-n.n c.loop-n.invariant opens in
-    record {
-      least = least;
-      only = λ h other. next_once table _ _ _ other least;
-      value = waits_next table _ _ c.args.self.now.opens least;
-      soon = omega arith;
-    }
 
 pub returns : goal.returns
 returns c =
     let table = c.args.self.now.bytes in
-    let ever = c.args.self.now.opens in
-    let all : c.loop-n.n ≡ 167 = omega arith in
-    let shut = c.loop-n.invariant in
-    let least = waits table c.args.hour 167 (λ k h. shut k (omega arith)) (last_opens table c.args.hour c.loop-n.n all ever shut) in
+    let found = first_from_Range _ _ _ c.find.result (λ n. opens_at table (c.args.hour % 168 + n) ≡ true) (λ n. opens_at table (c.args.hour % 168 + n) ≡ false) c.find.ensures.ran
+    (λ x q k. search (rules, tests)) (λ x q k. search (rules, tests)) in
+    let (least, soon) = waits_found table c.args.hour c.find.result c.args.self.now.opens found in
+    let is = c.unwrap_or.ensures in
+    let here : Next table c.args.hour (c.args.hour + c.unwrap_or.result) = rw is least in
     record {
-      least = least;
-      only = λ h other. next_once table _ _ _ other least;
-      value = waits_next table _ _ ever least;
-      soon = omega arith;
+      least = here;
+      only = λ h other. next_once table _ _ _ other here;
+      value = waits_next table _ _ c.args.self.now.opens here;
+      soon = rw is soon;
     }

@@ -1,6 +1,0 @@
-use Rattle.std.proofs.Common.{refl, rules}
-use Rattle.std.proofs.lemmas.Slice.{overwrites}
-use Rattle.bench_run.proofs.lines.push.Goals as goal
-
-pub returns : goal.returns
-returns c = record { after = search (rules, overwrites); ends = refl }
