@@ -11,11 +11,11 @@ use words::Block;
 
 const LIMIT: usize = 16_777_216;
 
-// A message that bytes are added to. It is not `Drop`: what was begun is finished. `count` is the number of all bytes,
-// and not of the tail's, so that no slice holds both.
+// A message that bytes are added to. It is not `Drop`: what was begun is finished.
 pub struct Message<'a, C> {
     pub(crate) chain: Chain<'a, C>,
     pub(crate) tail: [u8; 64],
+    // of all bytes, and not of the tail's, so that no slice holds both
     pub(crate) count: usize,
     ghost within: { count ≤ limit },
 }

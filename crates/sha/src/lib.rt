@@ -15,8 +15,7 @@ use shacal1::Shacal1;
 use shacal2::Shacal2;
 use words::Block;
 
-// Two names of one generic call. A trait with the agreement as its law was tried: the law's proof had to stand in
-// specs/, and edits of the standard's text there could then not be read.
+// Two names of one generic call; tried: a trait with a law, whose proof in specs/ makes edits of the text unreadable.
 
 // SHA-1 of the parts, joined.
 #[tactic(auto, using(crate::proofs::Standard1::digest_sha1))]
