@@ -5,7 +5,7 @@
 
 use anyhow::anyhow;
 use cipher::Cipher;
-use digest_text::{Choice, choice, line};
+use digest_text::{Choice, UnknownChoice, line};
 use hash::Message;
 use practice::Practice;
 use shacal1::Shacal1;
@@ -29,9 +29,9 @@ fn feed<C: Cipher, R: Read>(
         if got == 0 {
             return Ok(());
         }
-        if message.add(&piece[0..got]).is_err() {
-            return Err(anyhow!("the input is longer than 16777216 bytes"));
-        }
+        message
+            .add(&piece[0..got])
+            .map_err(|_| anyhow!("the input is longer than 16777216 bytes"))?;
     }
 }
 
@@ -50,10 +50,11 @@ fn chosen(rt: &HostRuntime) -> anyhow::Result<Choice> {
     let Some(first) = arguments.next() else {
         return Ok(Choice::Sha256);
     };
-    match choice(first.as_str()) {
-        Some(one) if arguments.next().is_none() => Ok(one),
-        _ => Err(anyhow!("the argument is 1, 2 or P, or there is none")),
+    let choice = first.as_str().parse()?;
+    if arguments.next().is_some() {
+        return Err(UnknownChoice.into());
     }
+    Ok(choice)
 }
 
 fn run(rt: &HostRuntime) -> anyhow::Result<()> {
@@ -67,7 +68,7 @@ fn run(rt: &HostRuntime) -> anyhow::Result<()> {
     };
     let text = line(rt.alloc(), &digest)?;
     let mut out = rt.stdout();
-    out.write_all(&text)?;
+    out.write_all(text.as_bytes())?;
     out.flush()?;
     Ok(())
 }

@@ -1,18 +1,29 @@
--- Digits of bytes, one byte behind the other. Assumes nothing.
-use Rattle.std.proofs.Common.{◌≡◌, ℕ, ◌+◌, ◌/◌, ◌%◌, ◌<◌, List, [], ◌∷◌, ◌++◌, length, get_or, take, sym, ap, ◌∙◌, append_assoc}
-use Rattle.std.proofs.lemmas.List.{take_more}
+-- The library's hexadecimal text is the definition's. Assumes nothing.
+use Rattle.std.proofs.Common.{◌≡◌, ℕ, zero, suc, ◌/◌, ◌%◌, ◌^◌, ◌<◌, List, [], ◌∷◌, refl, arith, slice_index}
+use Rattle.hex.specs.Hex.{lower_digits, encode_with, encode_lower}
+use Rattle.words.specs.Words.{Below}
 use Rattle.words.specs.Hex.{digit, hex}
-use Rattle.words.proofs.Hexed.{hex_push}
 
--- one byte more
-pub hex_more : (bs : List ℕ) (i h l : ℕ) (old one two pair : List ℕ) → i < length bs → old ≡ hex (take i bs) → pair ≡ digit (get_or bs i 0 / 16) ∷ digit (get_or bs i 0 % 16) ∷ [] → h ≡ get_or pair 0 0 → l ≡ get_or pair 1 0
-    → one ≡ old ++ h ∷ [] → two ≡ one ++ l ∷ [] → two ≡ hex (take (i + 1) bs)
-hex_more bs i h l old one two pair lt is both high low first second =
-    let hi : h ≡ digit (get_or bs i 0 / 16) = high ∙ ap (λ (p : List ℕ). get_or p 0 0) both in
-    let lo : l ≡ digit (get_or bs i 0 % 16) = low ∙ ap (λ (p : List ℕ). get_or p 1 0) both in
-    second
-    ∙ ap (λ (r : List ℕ). r ++ l ∷ []) first
-    ∙ append_assoc old (h ∷ []) (l ∷ [])
-    ∙ (λ j. is j ++ hi j ∷ lo j ∷ [])
-    ∙ sym (hex_push (take i bs) (get_or bs i 0))
-    ∙ ap hex (sym (take_more bs i 0 lt))
+digit_is : (n : ℕ) → n < 16 → slice_index lower_digits n ≡ digit n
+digit_is zero h = refl
+digit_is (suc zero) h = refl
+digit_is (suc (suc zero)) h = refl
+digit_is (suc (suc (suc zero))) h = refl
+digit_is (suc (suc (suc (suc zero)))) h = refl
+digit_is (suc (suc (suc (suc (suc zero))))) h = refl
+digit_is (suc (suc (suc (suc (suc (suc zero)))))) h = refl
+digit_is (suc (suc (suc (suc (suc (suc (suc zero))))))) h = refl
+digit_is (suc (suc (suc (suc (suc (suc (suc (suc zero)))))))) h = refl
+digit_is (suc (suc (suc (suc (suc (suc (suc (suc (suc zero))))))))) h = refl
+digit_is (suc (suc (suc (suc (suc (suc (suc (suc (suc (suc zero)))))))))) h = refl
+digit_is (suc (suc (suc (suc (suc (suc (suc (suc (suc (suc (suc zero))))))))))) h = refl
+digit_is (suc (suc (suc (suc (suc (suc (suc (suc (suc (suc (suc (suc zero)))))))))))) h = refl
+digit_is (suc (suc (suc (suc (suc (suc (suc (suc (suc (suc (suc (suc (suc zero))))))))))))) h = refl
+digit_is (suc (suc (suc (suc (suc (suc (suc (suc (suc (suc (suc (suc (suc (suc zero)))))))))))))) h = refl
+digit_is (suc (suc (suc (suc (suc (suc (suc (suc (suc (suc (suc (suc (suc (suc (suc zero))))))))))))))) h = refl
+digit_is (suc (suc (suc (suc (suc (suc (suc (suc (suc (suc (suc (suc (suc (suc (suc (suc n)))))))))))))))) h = absurd (omega arith)
+
+pub encoded : (bs : List ℕ) → Below (2 ^ 8) bs → encode_lower bs ≡ hex bs
+unfolding encode_with hex
+encoded [] h = refl
+encoded (b ∷ bs) h = λ i. digit_is (b / 16) (omega arith) i ∷ digit_is (b % 16) (omega arith) i ∷ encoded bs h.1 i

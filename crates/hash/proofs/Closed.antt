@@ -76,13 +76,14 @@ module _ (m : Meaning) (count : ℕ) (tail h bs : List ℕ) (long : length tail 
 
   -- two blocks
   pub closed_two : (marked zeros ended one all : List ℕ) → 55 < count % 64 → marked ≡ take (count % 64) tail ++ mark (63 - count % 64) → one ≡ forward m h (words marked)
-      → zeros ≡ replicate 64 0 → ended ≡ take 56 zeros ++ field count → all ≡ forward m one (words ended) → all ≡ digest m bs
+      → zeros ≡ replicate (length marked) 0 → ended ≡ take 56 zeros ++ field count → all ≡ forward m one (words ended) → all ≡ digest m bs
   closed_two marked zeros ended one all many is o z e a =
       let u = count % 64 in
       let t = take u tail in
       let lt : length t ≡ u = length-take-le u tail (omega arith) in
       let n : 63 - u ≡ 63 - length t = omega arith in
-      let front : take 56 zeros ≡ replicate 56 0 = ap (take 56) z in
+      let whole : length marked ≡ 64 = ap length is ∙ length-append t (mark (63 - u)) ∙ omega (arith, length-replicate {A = ℕ} (63 - u) 0) in
+      let front : take 56 zeros ≡ replicate 56 0 = ap (take 56) (z ∙ ap (λ (k : ℕ). replicate k 0) whole) in
       a
       ∙ (λ i. forward m (o i) (words ((e ∙ (λ j. front j ++ field count)) i)))
       ∙ ap (λ (x : List ℕ). forward m (forward m h (words x)) (words (replicate 56 0 ++ field count))) (is ∙ ap (λ (j : ℕ). t ++ mark j) n)

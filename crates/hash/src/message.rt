@@ -1,8 +1,8 @@
-ghost use Rattle.std.specs.Prelude.{◌≡◌, ℕ, ◌+◌, ◌^◌, List, [], ◌++◌, length, MatchResult};
+ghost use Rattle.std.specs.Prelude.{◌≡◌, ℕ, ◌+◌, ◌≤◌, ◌^◌, List, [], ◌++◌, length, MatchResult};
 ghost use Rattle.words.specs.Blocks.{held};
 ghost use Rattle.words.specs.Words.{Below};
 ghost use Rattle.hash.specs.Digests.{digest};
-ghost use Rattle.hash.specs.Messages.{Open, Granted};
+ghost use Rattle.hash.specs.Messages.{Open, Granted, limit};
 
 use crate::chaining::Chain;
 use cipher::Cipher;
@@ -11,12 +11,13 @@ use words::Block;
 
 const LIMIT: usize = 16_777_216;
 
-// A message that bytes are added to. It is not `Drop`: what was begun is finished. `count` is the number of all bytes,
-// and not of the tail's, so that no slice holds both.
+// A message that bytes are added to. It is not `Drop`: what was begun is finished.
 pub struct Message<'a, C> {
     pub(crate) chain: Chain<'a, C>,
     pub(crate) tail: [u8; 64],
+    // of all bytes, and not of the tail's, so that no slice holds both
     pub(crate) count: usize,
+    ghost within: { count ≤ limit },
 }
 
 impl<'a, C: Cipher> Message<'a, C> {
@@ -40,7 +41,7 @@ impl<'a, C: Cipher> Message<'a, C> {
         ensures bytes { Below (2 ^ 8) «data».now }
         ensures stands { MatchResult result (λ u. (bs : List ℕ) → Open (C.Cipher.meaning self.old.chain.cipher.now) self.old.count self.old.tail self.old.chain.places bs → Open (C.Cipher.meaning self.old.chain.cipher.now) self.new.count self.new.tail self.new.chain.places (bs ++ «data».now)) (λ f. self.new ≡ self.old) }
     {
-        if self.count > LIMIT || data.len() > LIMIT - self.count {
+        if data.len() > LIMIT - self.count {
             return Err(MessageFault::Limit);
         }
         self.grow(data);

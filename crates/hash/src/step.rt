@@ -28,6 +28,5 @@ pub fn forward<C: Cipher>(
     };
     let before = old.eight();
     cipher.encrypt(block, chain)?;
-    let _ = add_words(chain, &before[0..n]);
-    Ok(())
+    add_words(chain, &before[0..n])
 }

@@ -3,9 +3,12 @@
 
 #[cfg(test)]
 mod tests {
-    use hash::{Message, digest_of};
+    use cipher::Cipher;
+    use faults::MessageFault;
+    use hash::{Chain, Message, digest_of};
     use shacal1::Shacal1;
     use shacal2::Shacal2;
+    use std::process::Abort;
     use std::test::Fail;
 
     const LONG: &[u8; 56] = b"abcdbcdecdefdefgefghfghighijhijkijkljklmklmnlmnomnopnopq";
@@ -19,34 +22,59 @@ mod tests {
         0x19DB06C1,
     ];
 
-    #[test]
-    fn in_parts(rt: HostRuntime) -> Result<(), Fail> {
+    // The example in two parts, cut at several places.
+    fn check_in_parts<C: Cipher>(
+        rt: &impl Abort,
+        cipher: &C,
+        expected: &[u32; 8],
+    ) -> Result<(), Fail> {
         let long = *LONG;
         for cut in [0, 1, 3, 55, 56] {
             assert!(rt; cut <= 56);
-            let one = digest_of(&Shacal1, &[&long[0..cut], &long[cut..56]])?;
-            assert_eq!(rt; one.eight(), SHA1);
-            let two = digest_of(&Shacal2, &[&long[0..cut], &long[cut..56]])?;
-            assert_eq!(rt; two.eight(), SHA256);
+            let digest = digest_of(cipher, &[&long[0..cut], &long[cut..56]])?;
+            assert_eq!(rt; digest.eight(), *expected);
         }
         Ok(())
     }
 
     #[test]
-    fn million(rt: HostRuntime) {
-        let mut message = Message::new(&Shacal1);
-        let part = [b'a'; 1000];
-        let mut refused = false;
-        for _ in 0..1000 {
-            refused = message.add(&part).is_err() || refused;
+    fn in_parts(rt: HostRuntime) -> Result<(), Fail> {
+        check_in_parts(&rt, &Shacal1, &SHA1)?;
+        check_in_parts(&rt, &Shacal2, &SHA256)
+    }
+
+    fn add_times<C: Cipher>(
+        message: &mut Message<'_, C>,
+        part: &[u8],
+        times: usize,
+    ) -> Result<(), MessageFault> {
+        for _ in 0..times {
+            message.add(part)?;
         }
+        Ok(())
+    }
+
+    #[test]
+    fn million(rt: HostRuntime) -> Result<(), Fail> {
+        let mut message = Message::new(&Shacal1);
+        let added = add_times(&mut message, &[b'a'; 1000], 1000);
         let digest = message.finish();
-        assert!(rt; !refused);
+        added?;
         assert_eq!(rt;
             digest.eight(),
             [
                 0x34AA973C, 0xD4C4DAA4, 0xF61EEB2B, 0xDBAD2731, 0x6534016F, 0, 0, 0,
             ]
         );
+        Ok(())
+    }
+
+    // The one block of "abc", padded by hand.
+    #[test]
+    fn one_step(rt: HostRuntime) {
+        let mut chain = Chain::new(&Shacal1);
+        chain.step(&[0x61626380, 0, 0, 0, 0, 0, 0, 0, 0, 0, 0, 0, 0, 0, 0, 24]);
+        let expected = [0xA9993E36, 0x4706816A, 0xBA3E2571, 0x7850C26C, 0x9CD0D89D];
+        assert_eq!(rt; chain.words(), expected.as_slice());
     }
 }

@@ -1,15 +1,10 @@
 -- A cipher whose forward step is a standard's work on a block: its digests are the standard's. Assumes nothing.
-use Rattle.std.proofs.Common.{◌≡◌, ℕ, zero, suc, ◌*◌, ◌/◌, ◌^◌, ◌<◌, ◌≤◌, List, [], ◌∷◌, length, get_or, take, Ok, Err, Result, sym, refl, ap, ◌∙◌, subst, le_of_suc-le-suc, arith, Bor}
+use Rattle.std.proofs.Common.{◌≡◌, ℕ, zero, suc, ◌*◌, ◌/◌, ◌^◌, ◌<◌, ◌≤◌, List, [], ◌∷◌, length, get_or, take, sym, refl, ap, ◌∙◌, subst, le_of_suc-le-suc, arith}
 use lib.Seq.{take-length}
-use Rattle.std.specs.List.{flat_map}
-use Rattle.faults.specs.declared.grounds.MessageFault.{MessageFault}
-use Rattle.words.specs.declared.block.Block.{Block}
 use Rattle.words.specs.Words.{Below, Row, words}
 use Rattle.cipher.specs.Meaning.{Meaning, Lawful}
 use Rattle.hash.specs.Digests.{forward, chain, cut, digest, padded, block_count, blocks}
 use Rattle.words.specs.Steps.{at}
-use Rattle.hash.specs.Messages.{Hashes, Measured}
-use Rattle.sha.specs.Answers.{Sums}
 use Rattle.sha.specs.Standards.{pad, M, H}
 use Rattle.words.proofs.Bytes.{length_words, words_below}
 use Rattle.hash.proofs.Rows.{Rows, rows_cut, length_cut, padded_whole, padded_below, chain_step, forward_row}
@@ -52,9 +47,3 @@ module _ (m : Meaning) (lawful : Lawful m) (V : Type 0) (row : V → List ℕ) (
       ∙ ap (λ (c : List ℕ). chain m c (take n bs)) e
       ∙ (chain_H start (padded msg) n (subst (Row m.width) e lawful.starts) (padded_whole msg) (padded_below msg h) n (omega arith)).0
       ∙ ap (λ (p : List ℕ). row (H block start p (length p / 64))) (pad_is msg)
-
--- what a call answers over a cipher that agrees with a standard
-pub sums : (m : Meaning) (standard : List ℕ → List ℕ) → ((msg : List ℕ) → Below (2 ^ 8) msg → digest m msg ≡ standard msg)
-    → (parts : List (Bor (List ℕ))) (r : Result Block MessageFault) → Hashes m parts r → Measured m parts r → Sums standard parts r
-sums m standard agrees parts (Ok d) h bytes = (h.0, h.1 ∙ agrees (flat_map (λ x. x.now) parts) bytes.0)
-sums m standard agrees parts (Err f) h bytes = h

@@ -15,7 +15,10 @@ use shacal1::Shacal1;
 use shacal2::Shacal2;
 use words::Block;
 
+// Two names of one generic call; tried: a trait with a law, whose proof in specs/ makes edits of the text unreadable.
+
 // SHA-1 of the parts, joined.
+#[tactic(auto, using(crate::proofs::Standard1::digest_sha1))]
 pub fn sha1(parts: &[&[u8]]) -> Result<Block, MessageFault>
     ensures answer { Sums sha1_of parts.now result }
     ensures agrees { Sha1OverShacal1 }
@@ -24,6 +27,7 @@ pub fn sha1(parts: &[&[u8]]) -> Result<Block, MessageFault>
 }
 
 // SHA-256 of the parts, joined.
+#[tactic(auto, using(crate::proofs::Standard256::digest_sha256))]
 pub fn sha256(parts: &[&[u8]]) -> Result<Block, MessageFault>
     ensures answer { Sums sha256_of parts.now result }
     ensures agrees { Sha256OverShacal2 }

@@ -54,27 +54,6 @@ module _ (m : Meaning) (x y : List ℕ) where
   moved a b c d p q h = subst (λ (u : ℕ). Agree m x y u d) p (subst (Agree m x y a) q h)
 
   module _ (i j : ℕ) where
-    -- a place where the pair agrees
-    last_kept : (k : ℕ) (o : Option ℕ) → Last m x y i j k o → Agree m x y (i + k) (j + k) → Last m x y i j (k + 1) o
-    last_kept k None f a = λ q h. elim (cases_order q k) [
-      | inl e ↦ moved (i + k) (j + k) (i + q) (j + q) (omega arith) (omega arith) a
-      | inr (inl l) ↦ f q l
-      | inr (inr l) ↦ absurd (omega arith)
-    ]
-    last_kept k (Some p) f a = (
-      omega arith,
-      f.1,
-      λ q g h. elim (cases_order q k) [
-        | inl e ↦ moved (i + k) (j + k) (i + q) (j + q) (omega arith) (omega arith) a
-        | inr (inl l) ↦ f.2 q g l
-        | inr (inr l) ↦ absurd (omega arith)
-      ],
-    )
-
-    -- a place where it differs
-    last_here : (k : ℕ) → (Agree m x y (i + k) (j + k) → ⊥) → Last m x y i j (k + 1) (Some k)
-    last_here k d = (omega arith, d, λ q g h. absurd (omega arith))
-
     module _ (n : ℕ) (x-ends : i + n ≡ length (blocks x)) (y-ends : j + n ≡ length (blocks y)) where
       -- messages that agree down to the front of one of them are the same
       pub never : Below (2 ^ 8) x → Below (2 ^ 8) y → Within x y → i ≡ length (blocks x) - length (blocks y) → j ≡ length (blocks y) - length (blocks x)

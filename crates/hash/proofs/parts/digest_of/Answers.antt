@@ -1,4 +1,4 @@
-use Rattle.std.proofs.Common.{◌≡◌, ◌^◌, take, sym, refl, ap, ◌∙◌, arith}
+use Rattle.std.proofs.Common.{◌≡◌, ◌^◌, take, sym, refl, ap, ◌∙◌}
 use Rattle.std.specs.List.{flat_map}
 use Rattle.std.proofs.lemmas.List.{take_all}
 use Rattle.words.proofs.Bytes.{below_append}
@@ -27,7 +27,6 @@ loop-part-preserved g c =
     record {
       same = granted.same ∙ here.same;
       stands = opens_like _ m _ _ _ _ _ mine (sym more) (granted.stands (flat_map (λ x. x.now) (take i parts)) before);
-      within = omega (arith, granted.counts, granted.granted);
       bytes = below_like (2 ^ 8) _ _ (sym more) (below_append (2 ^ 8) (flat_map (λ x. x.now) (take i parts)) _ here.bytes granted.bytes);
     }
 

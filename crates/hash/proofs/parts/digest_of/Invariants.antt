@@ -1,7 +1,7 @@
-use Rattle.std.proofs.Common.{◌≡◌, ◌^◌, ◌≤◌, take}
+use Rattle.std.proofs.Common.{◌≡◌, ◌^◌, take}
 use Rattle.std.specs.List.{flat_map}
 use Rattle.words.specs.Words.{Below}
-use Rattle.hash.specs.Messages.{limit, Open}
+use Rattle.hash.specs.Messages.{Open}
 use Rattle.hash.proofs.parts.digest_of.Given as goal
 
 abbrev pub invariant-loop-part : goal.invariant-loop-part
@@ -10,6 +10,5 @@ invariant-loop-part g l =
     record {
       same : l.message.chain.cipher.now ≡ l.cipher;
       stands : Open (g.C.Cipher.meaning l.cipher) l.message.count l.message.tail l.message.chain.places begun;
-      within : l.message.count ≤ limit;
       bytes : Below (2 ^ 8) begun;
     }
