@@ -1,4 +1,5 @@
 // Encryption and decryption for C to call, so that they can be timed beside C: each is the cipher's meaning on its block.
+// C needs a function with a name of its own for each cipher and direction, so these four are not one generic one.
 #![tactic(auto)]
 
 ghost use Rattle.std.specs.Prelude.{◌≡◌};

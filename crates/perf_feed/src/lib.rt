@@ -1,5 +1,6 @@
 // One step of a hash for C to call, so that it can be timed beside C: the block is encrypted and added to what it was.
 // It stands apart from the other exports, so that each cipher has one caller, as in a hash, and is compiled into it.
+// C needs a function with a name of its own for each cipher, so these two are not one generic one.
 #![tactic(auto)]
 
 ghost use Rattle.std.specs.Prelude.{◌≡◌};
@@ -18,7 +19,7 @@ pub extern "C" fn rattle_shacal1_feed(key: &[u32; 16], block: &mut [u32; 5])
 {
     let old = *block;
     let _ = Shacal1.encrypt(key, block);
-    add_words(block, &old);
+    let _ = add_words(block, &old);
 }
 
 #[unsafe(no_mangle)]
@@ -27,5 +28,5 @@ pub extern "C" fn rattle_shacal2_feed(key: &[u32; 16], block: &mut [u32; 8])
 {
     let old = *block;
     let _ = Shacal2.encrypt(key, block);
-    add_words(block, &old);
+    let _ = add_words(block, &old);
 }

@@ -5,7 +5,7 @@
 ghost use Rattle.practice.specs.Practice.{practice};
 ghost use Rattle.practice.specs.Laws;
 
-use cipher::Cipher;
+use cipher::{Cipher, initial_block};
 use faults::CipherFault;
 use words::Block;
 
@@ -23,29 +23,20 @@ impl Cipher for Practice {
     }
 
     fn initial(&self) -> Block {
-        match Block::of(&[1, 2]) {
-            Some(block) => block,
-            None => unreachable(),
-        }
+        initial_block([1, 2])
     }
 
     fn encrypt(&self, key: &[u32; 16], block: &mut [u32]) -> Result<(), CipherFault> {
-        if block.len() != 2 {
-            return Err(CipherFault::Block);
-        }
-        let (x, y) = (block[0], block[1]);
-        block[0] = x.wrapping_add(key[0]);
-        block[1] = y.wrapping_add(key[1]);
+        let block = block.as_mut_array::<2>().ok_or(CipherFault::Block)?;
+        let [x, y] = *block;
+        *block = [x.wrapping_add(key[0]), y.wrapping_add(key[1])];
         Ok(())
     }
 
     fn decrypt(&self, key: &[u32; 16], block: &mut [u32]) -> Result<(), CipherFault> {
-        if block.len() != 2 {
-            return Err(CipherFault::Block);
-        }
-        let (x, y) = (block[0], block[1]);
-        block[0] = x.wrapping_sub(key[0]);
-        block[1] = y.wrapping_sub(key[1]);
+        let block = block.as_mut_array::<2>().ok_or(CipherFault::Block)?;
+        let [x, y] = *block;
+        *block = [x.wrapping_sub(key[0]), y.wrapping_sub(key[1])];
         Ok(())
     }
 }

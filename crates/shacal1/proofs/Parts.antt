@@ -1,5 +1,5 @@
 -- The steps, cut where the phases and the sixteens of the schedule meet. Assumes nothing.
-use Rattle.std.proofs.Common.{◌≡◌, ℕ, ◌+◌, ◌*◌, ◌/◌, ◌≤◌, List, [], ◌∷◌, ◌++◌, length, take, drop, set, sym, refl, ap, ◌∙◌, arith}
+use Rattle.std.proofs.Common.{◌≡◌, ℕ, ◌+◌, ◌*◌, ◌/◌, ◌≤◌, List, [], ◌∷◌, ◌++◌, length, take, drop, sym, refl, ap, ◌∙◌, arith}
 use Rattle.std.proofs.lemmas.List.{take-append-drop, take_all, length-take-le, length-drop}
 use Rattle.words.specs.Steps.{choose, parity, majority, forth, undo, next}
 use Rattle.words.proofs.Undone.{forth_append, undo_append}
@@ -59,12 +59,9 @@ module _ (p q i a b : ℕ) (w s : List ℕ) (l : length w ≡ 16) (e : a + b ≡
 -- ---- the five sixteens
 
 module _ (w s : List ℕ) (l : length w ≡ 16) where
-  whole : take 16 w ≡ w
-  whole = take_all 16 w (omega arith)
-
-  run_0 : run 0 w s ≡ phase choose 0x5A827999 (take 16 w) s
+  run_0 : run 0 w s ≡ phase choose 0x5A827999 w s
   unfolding mix constant
-  run_0 = run_phase 0 0 w s (omega arith) (omega arith) ∙ ap (λ z. phase choose 0x5A827999 z s) (sym whole)
+  run_0 = run_phase 0 0 w s (omega arith) (omega arith)
 
   run_16 : run 16 w s ≡ phase parity 0x6ED9EBA1 (take 12 (drop 4 w)) (phase choose 0x5A827999 (take 4 w) s)
   unfolding mix constant
@@ -78,13 +75,13 @@ module _ (w s : List ℕ) (l : length w ≡ 16) where
   unfolding mix constant
   run_48 = run_halves 2 3 48 12 4 w s l refl (omega arith) (omega arith) (omega arith) (omega arith)
 
-  run_64 : run 64 w s ≡ phase parity 0xCA62C1D6 (take 16 w) s
+  run_64 : run 64 w s ≡ phase parity 0xCA62C1D6 w s
   unfolding mix constant
-  run_64 = run_phase 3 64 w s (omega arith) (omega arith) ∙ ap (λ z. phase parity 0xCA62C1D6 z s) (sym whole)
+  run_64 = run_phase 3 64 w s (omega arith) (omega arith)
 
-  back_0 : back 0 w s ≡ unphase choose 0x5A827999 (take 16 w) s
+  back_0 : back 0 w s ≡ unphase choose 0x5A827999 w s
   unfolding mix constant
-  back_0 = back_phase 0 0 w s (omega arith) (omega arith) ∙ ap (λ z. unphase choose 0x5A827999 z s) (sym whole)
+  back_0 = back_phase 0 0 w s (omega arith) (omega arith)
 
   back_16 : back 16 w s ≡ unphase choose 0x5A827999 (take 4 w) (unphase parity 0x6ED9EBA1 (take 12 (drop 4 w)) s)
   unfolding mix constant
@@ -98,9 +95,9 @@ module _ (w s : List ℕ) (l : length w ≡ 16) where
   unfolding mix constant
   back_48 = back_halves 2 3 48 12 4 w s l refl (omega arith) (omega arith) (omega arith) (omega arith)
 
-  back_64 : back 64 w s ≡ unphase parity 0xCA62C1D6 (take 16 w) s
+  back_64 : back 64 w s ≡ unphase parity 0xCA62C1D6 w s
   unfolding mix constant
-  back_64 = back_phase 3 64 w s (omega arith) (omega arith) ∙ ap (λ z. unphase parity 0xCA62C1D6 z s) (sym whole)
+  back_64 = back_phase 3 64 w s (omega arith) (omega arith)
 
 module _ (k w1 w2 w3 w4 b : List ℕ) (l : length k ≡ 16) (e1 : w1 ≡ next fresh k) (e2 : w2 ≡ next fresh w1) (e3 : w3 ≡ next fresh w2) (e4 : w4 ≡ next fresh w3) where
   l1 : length w1 ≡ 16
@@ -115,7 +112,7 @@ module _ (k w1 w2 w3 w4 b : List ℕ) (l : length k ≡ 16) (e1 : w1 ≡ next fr
   l4 : length w4 ≡ 16
   l4 = rw e4 (length_next fresh w3 l3)
 
-  pub enc_parts : Enc k b ≡ phase parity 0xCA62C1D6 (take 16 w4) (phase parity 0xCA62C1D6 (take 4 (drop 12 w3)) (phase majority 0x8F1BBCDC (take 12 w3) (phase majority 0x8F1BBCDC (take 8 (drop 8 w2)) (phase parity 0x6ED9EBA1 (take 8 w2) (phase parity 0x6ED9EBA1 (take 12 (drop 4 w1)) (phase choose 0x5A827999 (take 4 w1) (phase choose 0x5A827999 (take 16 k) b)))))))
+  pub enc_parts : Enc k b ≡ phase parity 0xCA62C1D6 w4 (phase parity 0xCA62C1D6 (take 4 (drop 12 w3)) (phase majority 0x8F1BBCDC (take 12 w3) (phase majority 0x8F1BBCDC (take 8 (drop 8 w2)) (phase parity 0x6ED9EBA1 (take 8 w2) (phase parity 0x6ED9EBA1 (take 12 (drop 4 w1)) (phase choose 0x5A827999 (take 4 w1) (phase choose 0x5A827999 k b)))))))
   unfolding Enc
   enc_parts =
       let s1 = run 0 k b in
@@ -129,7 +126,7 @@ module _ (k w1 w2 w3 w4 b : List ℕ) (l : length k ≡ 16) (e1 : w1 ≡ next fr
       ∙ run_append 48 64 w3 w4 s3 (omega (arith, l3))
       ∙ rw (run_64 w4 s4 l4, run_48 w3 s3 l3, run_32 w2 s2 l2, run_16 w1 s1 l1, run_0 k b l)
 
-  pub dec_parts : Dec k b ≡ unphase choose 0x5A827999 (take 16 k) (unphase choose 0x5A827999 (take 4 w1) (unphase parity 0x6ED9EBA1 (take 12 (drop 4 w1)) (unphase parity 0x6ED9EBA1 (take 8 w2) (unphase majority 0x8F1BBCDC (take 8 (drop 8 w2)) (unphase majority 0x8F1BBCDC (take 12 w3) (unphase parity 0xCA62C1D6 (take 4 (drop 12 w3)) (unphase parity 0xCA62C1D6 (take 16 w4) b)))))))
+  pub dec_parts : Dec k b ≡ unphase choose 0x5A827999 k (unphase choose 0x5A827999 (take 4 w1) (unphase parity 0x6ED9EBA1 (take 12 (drop 4 w1)) (unphase parity 0x6ED9EBA1 (take 8 w2) (unphase majority 0x8F1BBCDC (take 8 (drop 8 w2)) (unphase majority 0x8F1BBCDC (take 12 w3) (unphase parity 0xCA62C1D6 (take 4 (drop 12 w3)) (unphase parity 0xCA62C1D6 w4 b)))))))
   unfolding Dec
   dec_parts =
       let s4 = back 64 w4 b in
@@ -146,18 +143,8 @@ module _ (k w1 w2 w3 w4 b : List ℕ) (l : length k ≡ 16) (e1 : w1 ≡ next fr
       ∙ rw (back_0 k s1 l, back_16 w1 s2 l1, back_32 w2 s3 l2, back_48 w3 s4 l3, back_64 w4 b l4)
 
   -- the same, state by state
-  pub enc_chain : (s0 s1 s2 s3 s4 s5 s6 s7 s8 : List ℕ) → s0 ≡ b → s1 ≡ phase choose 0x5A827999 (take 16 k) s0 → s2 ≡ phase choose 0x5A827999 (take 4 w1) s1 → s3 ≡ phase parity 0x6ED9EBA1 (take 12 (drop 4 w1)) s2 → s4 ≡ phase parity 0x6ED9EBA1 (take 8 w2) s3 → s5 ≡ phase majority 0x8F1BBCDC (take 8 (drop 8 w2)) s4 → s6 ≡ phase majority 0x8F1BBCDC (take 12 w3) s5 → s7 ≡ phase parity 0xCA62C1D6 (take 4 (drop 12 w3)) s6 → s8 ≡ phase parity 0xCA62C1D6 (take 16 w4) s7 → s8 ≡ Enc k b
-  enc_chain s0 s1 s2 s3 s4 s5 s6 s7 s8 p0 p1 p2 p3 p4 p5 p6 p7 p8 = rw (p8, p7, p6, p5, p4, p3, p2, p1, p0) (sym enc_parts)
+  pub enc_chain : (s1 s2 s3 s4 s5 s6 s7 s8 : List ℕ) → s1 ≡ phase choose 0x5A827999 k b → s2 ≡ phase choose 0x5A827999 (take 4 w1) s1 → s3 ≡ phase parity 0x6ED9EBA1 (take 12 (drop 4 w1)) s2 → s4 ≡ phase parity 0x6ED9EBA1 (take 8 w2) s3 → s5 ≡ phase majority 0x8F1BBCDC (take 8 (drop 8 w2)) s4 → s6 ≡ phase majority 0x8F1BBCDC (take 12 w3) s5 → s7 ≡ phase parity 0xCA62C1D6 (take 4 (drop 12 w3)) s6 → s8 ≡ phase parity 0xCA62C1D6 w4 s7 → s8 ≡ Enc k b
+  enc_chain s1 s2 s3 s4 s5 s6 s7 s8 p1 p2 p3 p4 p5 p6 p7 p8 = rw (p8, p7, p6, p5, p4, p3, p2, p1) (sym enc_parts)
 
-  pub dec_chain : (s0 s1 s2 s3 s4 s5 s6 s7 s8 : List ℕ) → s0 ≡ b → s1 ≡ unphase parity 0xCA62C1D6 (take 16 w4) s0 → s2 ≡ unphase parity 0xCA62C1D6 (take 4 (drop 12 w3)) s1 → s3 ≡ unphase majority 0x8F1BBCDC (take 12 w3) s2 → s4 ≡ unphase majority 0x8F1BBCDC (take 8 (drop 8 w2)) s3 → s5 ≡ unphase parity 0x6ED9EBA1 (take 8 w2) s4 → s6 ≡ unphase parity 0x6ED9EBA1 (take 12 (drop 4 w1)) s5 → s7 ≡ unphase choose 0x5A827999 (take 4 w1) s6 → s8 ≡ unphase choose 0x5A827999 (take 16 k) s7 → s8 ≡ Dec k b
-  dec_chain s0 s1 s2 s3 s4 s5 s6 s7 s8 p0 p1 p2 p3 p4 p5 p6 p7 p8 = rw (p8, p7, p6, p5, p4, p3, p2, p1, p0) (sym dec_parts)
-
--- five words, each written
-pub five_set : (b : List ℕ) (x y z u v : ℕ) → length b ≡ 5 → set (set (set (set (set b 0 x) 1 y) 2 z) 3 u) 4 v ≡ x ∷ y ∷ z ∷ u ∷ v ∷ []
-five_set [] x y z u v l = absurd (omega arith)
-five_set (a ∷ []) x y z u v l = absurd (omega arith)
-five_set (a ∷ b ∷ []) x y z u v l = absurd (omega arith)
-five_set (a ∷ b ∷ c ∷ []) x y z u v l = absurd (omega arith)
-five_set (a ∷ b ∷ c ∷ d ∷ []) x y z u v l = absurd (omega arith)
-five_set (a ∷ b ∷ c ∷ d ∷ e ∷ []) x y z u v l = refl
-five_set (a ∷ b ∷ c ∷ d ∷ e ∷ f ∷ fs) x y z u v l = absurd (omega arith)
+  pub dec_chain : (s1 s2 s3 s4 s5 s6 s7 s8 : List ℕ) → s1 ≡ unphase parity 0xCA62C1D6 w4 b → s2 ≡ unphase parity 0xCA62C1D6 (take 4 (drop 12 w3)) s1 → s3 ≡ unphase majority 0x8F1BBCDC (take 12 w3) s2 → s4 ≡ unphase majority 0x8F1BBCDC (take 8 (drop 8 w2)) s3 → s5 ≡ unphase parity 0x6ED9EBA1 (take 8 w2) s4 → s6 ≡ unphase parity 0x6ED9EBA1 (take 12 (drop 4 w1)) s5 → s7 ≡ unphase choose 0x5A827999 (take 4 w1) s6 → s8 ≡ unphase choose 0x5A827999 k s7 → s8 ≡ Dec k b
+  dec_chain s1 s2 s3 s4 s5 s6 s7 s8 p1 p2 p3 p4 p5 p6 p7 p8 = rw (p8, p7, p6, p5, p4, p3, p2, p1) (sym dec_parts)

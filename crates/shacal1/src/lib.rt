@@ -3,15 +3,15 @@
 // definition has the values of FIPS 180-4. Nothing is allocated, and the block is read and written once.
 #![tactic(auto)]
 
-ghost use Rattle.std.specs.Prelude.{◌≡◌, length};
+ghost use Rattle.std.specs.Prelude.{◌≡◌};
 ghost use Rattle.words.specs.Steps.{next};
 ghost use Rattle.shacal1.specs.Shacal1.{fresh, Enc, Dec, shacal1};
 ghost use Rattle.shacal1.specs.Phases.{row};
 ghost use Rattle.shacal1.specs.Laws;
 
-use cipher::Cipher;
+use cipher::{Cipher, initial_block};
 use faults::CipherFault;
-use steps::{K1, K3, State, choosing, load, mixing, store, unchoosing, unmixing, unvoting, voting};
+use steps::{First, Fourth, Second, State, Third, backward, forward};
 use words::Block;
 
 mod steps;
@@ -21,6 +21,7 @@ fn renewed(w: &[u32; 16]) -> [u32; 16]
     ensures { result ≡ next fresh w.now }
 {
     let mut r = *w;
+    // by index: each word is made of four words of the same window, old and new
     for i in 0..16 {
         r[i] = (r[(i + 13) % 16] ^ r[(i + 8) % 16] ^ r[(i + 2) % 16] ^ r[i]).rotate_left(1);
     }
@@ -31,18 +32,18 @@ fn renewed(w: &[u32; 16]) -> [u32; 16]
 fn enciphered(key: &[u32; 16], block: State) -> State
     ensures { row result ≡ Enc key.now (row block) }
 {
-    let s = choosing(&key[0..16], block);
+    let s = forward::<First>(key, block);
     let w1 = renewed(key);
-    let s = choosing(&w1[0..4], s);
-    let s = mixing(&w1[4..16], K1, s);
+    let s = forward::<First>(&w1[0..4], s);
+    let s = forward::<Second>(&w1[4..16], s);
     let w2 = renewed(&w1);
-    let s = mixing(&w2[0..8], K1, s);
-    let s = voting(&w2[8..16], s);
+    let s = forward::<Second>(&w2[0..8], s);
+    let s = forward::<Third>(&w2[8..16], s);
     let w3 = renewed(&w2);
-    let s = voting(&w3[0..12], s);
-    let s = mixing(&w3[12..16], K3, s);
+    let s = forward::<Third>(&w3[0..12], s);
+    let s = forward::<Fourth>(&w3[12..16], s);
     let w4 = renewed(&w3);
-    mixing(&w4[0..16], K3, s)
+    forward::<Fourth>(&w4, s)
 }
 
 // The 80 steps undone, the last first.
@@ -53,31 +54,14 @@ fn deciphered(key: &[u32; 16], block: State) -> State
     let w2 = renewed(&w1);
     let w3 = renewed(&w2);
     let w4 = renewed(&w3);
-    let s = unmixing(&w4[0..16], K3, block);
-    let s = unmixing(&w3[12..16], K3, s);
-    let s = unvoting(&w3[0..12], s);
-    let s = unvoting(&w2[8..16], s);
-    let s = unmixing(&w2[0..8], K1, s);
-    let s = unmixing(&w1[4..16], K1, s);
-    let s = unchoosing(&w1[0..4], s);
-    unchoosing(&key[0..16], s)
-}
-
-// Only this function calls `enciphered`, so that the compiler takes it in whole and orders its sums once more.
-fn encipher(key: &[u32; 16], block: &mut [u32])
-    requires { length block.old ≡ 5 }
-    ensures { block.new ≡ Enc key.now block.old }
-{
-    let s = enciphered(key, load(block));
-    store(s, block);
-}
-
-fn decipher(key: &[u32; 16], block: &mut [u32])
-    requires { length block.old ≡ 5 }
-    ensures { block.new ≡ Dec key.now block.old }
-{
-    let s = deciphered(key, load(block));
-    store(s, block);
+    let s = backward::<Fourth>(&w4, block);
+    let s = backward::<Fourth>(&w3[12..16], s);
+    let s = backward::<Third>(&w3[0..12], s);
+    let s = backward::<Third>(&w2[8..16], s);
+    let s = backward::<Second>(&w2[0..8], s);
+    let s = backward::<Second>(&w1[4..16], s);
+    let s = backward::<First>(&w1[0..4], s);
+    backward::<First>(key, s)
 }
 
 // The cipher as a value: it holds nothing.
@@ -94,32 +78,25 @@ impl Cipher for Shacal1 {
     }
 
     fn initial(&self) -> Block {
-        let words = [
+        initial_block([
             0x6745_2301,
             0xEFCD_AB89,
             0x98BA_DCFE,
             0x1032_5476,
             0xC3D2_E1F0,
-        ];
-        match Block::of(&words) {
-            Some(block) => block,
-            None => unreachable(),
-        }
+        ])
     }
 
+    // Not one form with a closure: its contract would be longer than the three lines that these two share.
     fn encrypt(&self, key: &[u32; 16], block: &mut [u32]) -> Result<(), CipherFault> {
-        if block.len() != 5 {
-            return Err(CipherFault::Block);
-        }
-        encipher(key, block);
+        let block = block.as_mut_array::<5>().ok_or(CipherFault::Block)?;
+        *block = enciphered(key, State::from(*block)).into();
         Ok(())
     }
 
     fn decrypt(&self, key: &[u32; 16], block: &mut [u32]) -> Result<(), CipherFault> {
-        if block.len() != 5 {
-            return Err(CipherFault::Block);
-        }
-        decipher(key, block);
+        let block = block.as_mut_array::<5>().ok_or(CipherFault::Block)?;
+        *block = deciphered(key, State::from(*block)).into();
         Ok(())
     }
 }

@@ -1,5 +1,5 @@
 -- The steps, cut where the sixteens of the schedule meet and once more in the middle. Assumes nothing.
-use Rattle.std.proofs.Common.{◌≡◌, ℕ, suc, ◌+◌, ◌≤◌, List, [], ◌∷◌, ◌++◌, length, take, drop, set, sym, refl, ap, ◌∙◌, arith}
+use Rattle.std.proofs.Common.{◌≡◌, ℕ, suc, ◌+◌, ◌≤◌, List, [], ◌∷◌, ◌++◌, length, take, drop, sym, refl, ap, ◌∙◌, arith}
 use Rattle.std.proofs.lemmas.List.{take-append-drop, take_all, length-take-le, length-drop, drop_more}
 use Rattle.words.specs.Steps.{at, forth, undo, next}
 use Rattle.words.proofs.Undone.{forth_append, undo_append}
@@ -121,16 +121,3 @@ enc_windows k r1 w1 r2 w2 r3 w3 b l n1 n2 n3 s1 s2 s3 s4 s5 s6 s7 s8 p1 p2 p3 p4
     let e3 = renewed_next w2 r3 w3 l2 n3 in
     let front : (i : ℕ) (r w s t : List ℕ) → take 8 w ≡ take 8 r → t ≡ on i 0 r s → t ≡ on i 0 w s = λ i r w s t e p. p ∙ ap (λ z. phase (take 8 (drop i constants)) z s) (sym e) in
     enc_chain k w1 w2 w3 b l e1 e2 e3 s1 s2 s3 s4 s5 s6 s7 s8 p1 p2 (front 16 r1 w1 s2 s3 n1.kept p3) p4 (front 32 r2 w2 s4 s5 n2.kept p5) p6 (front 48 r3 w3 s6 s7 n3.kept p7) p8
-
--- eight words, each written
-pub eight_set : (b : List ℕ) (x y z u v w p q : ℕ) → length b ≡ 8 → set (set (set (set (set (set (set (set b 0 x) 1 y) 2 z) 3 u) 4 v) 5 w) 6 p) 7 q ≡ x ∷ y ∷ z ∷ u ∷ v ∷ w ∷ p ∷ q ∷ []
-eight_set [] x y z u v w p q l = absurd (omega arith)
-eight_set (a ∷ []) x y z u v w p q l = absurd (omega arith)
-eight_set (a ∷ b ∷ []) x y z u v w p q l = absurd (omega arith)
-eight_set (a ∷ b ∷ c ∷ []) x y z u v w p q l = absurd (omega arith)
-eight_set (a ∷ b ∷ c ∷ d ∷ []) x y z u v w p q l = absurd (omega arith)
-eight_set (a ∷ b ∷ c ∷ d ∷ e ∷ []) x y z u v w p q l = absurd (omega arith)
-eight_set (a ∷ b ∷ c ∷ d ∷ e ∷ f ∷ []) x y z u v w p q l = absurd (omega arith)
-eight_set (a ∷ b ∷ c ∷ d ∷ e ∷ f ∷ g ∷ []) x y z u v w p q l = absurd (omega arith)
-eight_set (a ∷ b ∷ c ∷ d ∷ e ∷ f ∷ g ∷ h ∷ []) x y z u v w p q l = refl
-eight_set (a ∷ b ∷ c ∷ d ∷ e ∷ f ∷ g ∷ h ∷ i ∷ is) x y z u v w p q l = absurd (omega arith)

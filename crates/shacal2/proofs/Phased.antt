@@ -1,39 +1,46 @@
--- One step more of a part, forward and back. Assumes nothing.
-use Rattle.std.proofs.Common.{◌≡◌, ℕ, ◌+◌, ◌<◌, ◌≤◌, List, [], ◌∷◌, ◌++◌, length, take, drop, sym, refl, ap, ◌∙◌, arith}
-use Rattle.std.proofs.lemmas.List.{drop_more, take_more, drop_all, take_all, length-take-le}
-use Rattle.words.specs.Steps.{at}
+-- Parts as folds over pairs of a constant and a word. Assumes nothing.
+use Rattle.std.proofs.Common.{◌≡◌, ℕ, List, [], ◌∷◌, ◌++◌, length, reverse, fold, refl, sym, ap, ◌∙◌, arith}
+use Rattle.std.proofs.lemmas.Grind.{reverse_onto}
+use Rattle.std.proofs.lemmas.List.{length-reverse}
+use Rattle.std.proofs.lemmas.List.Sums.{fold_push}
+use Rattle.std.specs.List.{zip}
 use Rattle.shacal2.specs.Shacal2.{turn, unturn}
 use Rattle.shacal2.specs.Phases.{phase, unphase}
 
-pub phase_more : (i : ℕ) (ks ws s t : List ℕ) → i < length ks → i < length ws → t ≡ turn (at ks i) (at ws i) s → phase (drop (i + 1) ks) (drop (i + 1) ws) t ≡ phase (drop i ks) (drop i ws) s
+abbrev pub on : List ℕ → ℕ × ℕ → List ℕ
+on s p = turn p.0 p.1 s
+
+abbrev pub off : List ℕ → ℕ × ℕ → List ℕ
+off s p = unturn p.0 p.1 s
+
+pub phase_fold : (ks ws s : List ℕ) → fold on s (zip ks ws) ≡ phase ks ws s
 unfolding phase
-phase_more i ks ws s t g h q = rw (drop_more ks i 0, drop_more ws i 0, q)
+phase_fold [] ws s = refl
+phase_fold (k ∷ ks) [] s = refl
+phase_fold (k ∷ ks) (w ∷ ws) s = phase_fold ks ws (turn k w s)
 
-pub phase_all : (i : ℕ) (ks ws s : List ℕ) → length ks ≤ i → phase (drop i ks) (drop i ws) s ≡ s
-unfolding phase
-phase_all i ks ws s h = rw (drop_all i ks)
-
-unphase_push : (ks xs : List ℕ) (k w : ℕ) (s : List ℕ) → length ks ≡ length xs → unphase (ks ++ k ∷ []) (xs ++ w ∷ []) s ≡ unphase ks xs (unturn k w s)
+unphase_fold : (ks ws s : List ℕ) → fold off s (reverse (zip ks ws)) ≡ unphase ks ws s
 unfolding unphase
-unphase_push [] [] k w s e = refl
-unphase_push [] (x ∷ xs) k w s e = absurd (omega arith)
-unphase_push (j ∷ ks) [] k w s e = absurd (omega arith)
-unphase_push (j ∷ ks) (x ∷ xs) k w s e = ap (unturn j x) (unphase_push ks xs k w s (omega arith))
+unphase_fold [] ws s = refl
+unphase_fold (k ∷ ks) [] s = refl
+unphase_fold (k ∷ ks) (w ∷ ws) s = ap (fold off s) (reverse_onto (zip ks ws) (k, w) []) ∙ fold_push off s (reverse (zip ks ws)) (k, w) ∙ ap (unturn k w) (unphase_fold ks ws s)
 
-pub unphase_none : (ks ws s : List ℕ) → length ks ≡ length ws → unphase (take (length ws) ks) (take (length ws) ws) s ≡ unphase ks ws s
-unphase_none ks ws s e =
-    let g : length ks ≤ length ws = omega arith in
-    let h : length ws ≤ length ws = omega arith in
-    rw (take_all (length ws) ks, take_all (length ws) ws)
+zip_push : (xs ys : List ℕ) (x y : ℕ) → length xs ≡ length ys → zip (xs ++ x ∷ []) (ys ++ y ∷ []) ≡ zip xs ys ++ (x, y) ∷ []
+zip_push [] [] x y e = refl
+zip_push [] (b ∷ ys) x y e = absurd (omega arith)
+zip_push (a ∷ xs) [] x y e = absurd (omega arith)
+zip_push (a ∷ xs) (b ∷ ys) x y e = ap (λ zs. (a, b) ∷ zs) (zip_push xs ys x y (omega arith))
 
-pub unphase_more : (i j : ℕ) (ks ws s t : List ℕ) → j + 1 ≡ i → i ≤ length ks → i ≤ length ws → t ≡ unturn (at ks j) (at ws j) s → unphase (take j ks) (take j ws) t ≡ unphase (take i ks) (take i ws) s
-unphase_more i j ks ws s t e g h q =
-    let m : j < length ks = omega arith in
-    let l : j < length ws = omega arith in
-    let a = length-take-le j ks (omega arith) in
-    let b = length-take-le j ws (omega arith) in
-    rw (← e, take_more ks j 0, take_more ws j 0, q) (sym (unphase_push (take j ks) (take j ws) (at ks j) (at ws j) s (a ∙ sym b)))
+-- pairs taken from both ends
+zip_back : (ks ws : List ℕ) → length ks ≡ length ws → zip (reverse ks) (reverse ws) ≡ reverse (zip ks ws)
+zip_back [] [] e = refl
+zip_back [] (w ∷ ws) e = absurd (omega arith)
+zip_back (k ∷ ks) [] e = absurd (omega arith)
+zip_back (k ∷ ks) (w ∷ ws) e =
+    (λ i. zip (reverse_onto ks k [] i) (reverse_onto ws w [] i))
+    ∙ zip_push (reverse ks) (reverse ws) k w (length-reverse ks ∙ omega (arith, length-reverse ws))
+    ∙ ap (λ zs. zs ++ (k, w) ∷ []) (zip_back ks ws (omega arith))
+    ∙ sym (reverse_onto (zip ks ws) (k, w) [])
 
-pub unphase_all : (i : ℕ) (ks ws s : List ℕ) → i ≤ 0 → unphase (take i ks) (take i ws) s ≡ s
-unfolding unphase
-unphase_all i ks ws s h = let e : i ≡ 0 = omega arith in rw e
+pub unphase_back : (ks ws s : List ℕ) → length ks ≡ length ws → fold off s (zip (reverse ks) (reverse ws)) ≡ unphase ks ws s
+unphase_back ks ws s e = ap (fold off s) (zip_back ks ws e) ∙ unphase_fold ks ws s

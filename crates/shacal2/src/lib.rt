@@ -3,15 +3,15 @@
 // definition has the values of FIPS 180-4. Nothing is allocated, and the block is read and written once.
 #![tactic(auto)]
 
-ghost use Rattle.std.specs.Prelude.{◌≡◌, length};
+ghost use Rattle.std.specs.Prelude.{◌≡◌};
 ghost use Rattle.shacal2.specs.Shacal2.{Enc, Dec, shacal2};
 ghost use Rattle.shacal2.specs.Phases.{row};
 ghost use Rattle.shacal2.specs.Laws;
 
-use cipher::Cipher;
+use cipher::{Cipher, initial_block};
 use faults::CipherFault;
 use schedule::{K, renew, renewed};
-use steps::{State, load, store, turning, unturning};
+use steps::{State, backward, forward};
 use words::Block;
 
 mod schedule;
@@ -22,20 +22,20 @@ fn enciphered(key: &[u32; 16], block: State) -> State
     ensures { row result ≡ Enc key.now (row block) }
 {
     let mut w = *key;
-    let s = turning(&K[0..8], &w[0..8], block);
-    let s = turning(&K[8..16], &w[8..16], s);
+    let s = forward(&K[0..8], &w[0..8], block);
+    let s = forward(&K[8..16], &w[8..16], s);
     renew(&mut w, 0, 8);
-    let s = turning(&K[16..24], &w[0..8], s);
+    let s = forward(&K[16..24], &w[0..8], s);
     renew(&mut w, 8, 16);
-    let s = turning(&K[24..32], &w[8..16], s);
+    let s = forward(&K[24..32], &w[8..16], s);
     renew(&mut w, 0, 8);
-    let s = turning(&K[32..40], &w[0..8], s);
+    let s = forward(&K[32..40], &w[0..8], s);
     renew(&mut w, 8, 16);
-    let s = turning(&K[40..48], &w[8..16], s);
+    let s = forward(&K[40..48], &w[8..16], s);
     renew(&mut w, 0, 8);
-    let s = turning(&K[48..56], &w[0..8], s);
+    let s = forward(&K[48..56], &w[0..8], s);
     renew(&mut w, 8, 16);
-    turning(&K[56..64], &w[8..16], s)
+    forward(&K[56..64], &w[8..16], s)
 }
 
 // The 64 steps undone, the last first.
@@ -45,31 +45,14 @@ fn deciphered(key: &[u32; 16], block: State) -> State
     let w1 = renewed(key);
     let w2 = renewed(&w1);
     let w3 = renewed(&w2);
-    let s = unturning(&K[56..64], &w3[8..16], block);
-    let s = unturning(&K[48..56], &w3[0..8], s);
-    let s = unturning(&K[40..48], &w2[8..16], s);
-    let s = unturning(&K[32..40], &w2[0..8], s);
-    let s = unturning(&K[24..32], &w1[8..16], s);
-    let s = unturning(&K[16..24], &w1[0..8], s);
-    let s = unturning(&K[8..16], &key[8..16], s);
-    unturning(&K[0..8], &key[0..8], s)
-}
-
-// Only this function calls `enciphered`, so that the compiler takes it in whole and orders its sums once more.
-fn encipher(key: &[u32; 16], block: &mut [u32])
-    requires { length block.old ≡ 8 }
-    ensures { block.new ≡ Enc key.now block.old }
-{
-    let s = enciphered(key, load(block));
-    store(s, block);
-}
-
-fn decipher(key: &[u32; 16], block: &mut [u32])
-    requires { length block.old ≡ 8 }
-    ensures { block.new ≡ Dec key.now block.old }
-{
-    let s = deciphered(key, load(block));
-    store(s, block);
+    let s = backward(&K[56..64], &w3[8..16], block);
+    let s = backward(&K[48..56], &w3[0..8], s);
+    let s = backward(&K[40..48], &w2[8..16], s);
+    let s = backward(&K[32..40], &w2[0..8], s);
+    let s = backward(&K[24..32], &w1[8..16], s);
+    let s = backward(&K[16..24], &w1[0..8], s);
+    let s = backward(&K[8..16], &key[8..16], s);
+    backward(&K[0..8], &key[0..8], s)
 }
 
 // The cipher as a value: it holds nothing.
@@ -86,7 +69,7 @@ impl Cipher for Shacal2 {
     }
 
     fn initial(&self) -> Block {
-        let words = [
+        initial_block([
             0x6A09_E667,
             0xBB67_AE85,
             0x3C6E_F372,
@@ -95,26 +78,19 @@ impl Cipher for Shacal2 {
             0x9B05_688C,
             0x1F83_D9AB,
             0x5BE0_CD19,
-        ];
-        match Block::of(&words) {
-            Some(block) => block,
-            None => unreachable(),
-        }
+        ])
     }
 
+    // Not one form with a closure: its contract would be longer than the three lines that these two share.
     fn encrypt(&self, key: &[u32; 16], block: &mut [u32]) -> Result<(), CipherFault> {
-        if block.len() != 8 {
-            return Err(CipherFault::Block);
-        }
-        encipher(key, block);
+        let block = block.as_mut_array::<8>().ok_or(CipherFault::Block)?;
+        *block = enciphered(key, State::from(*block)).into();
         Ok(())
     }
 
     fn decrypt(&self, key: &[u32; 16], block: &mut [u32]) -> Result<(), CipherFault> {
-        if block.len() != 8 {
-            return Err(CipherFault::Block);
-        }
-        decipher(key, block);
+        let block = block.as_mut_array::<8>().ok_or(CipherFault::Block)?;
+        *block = deciphered(key, State::from(*block)).into();
         Ok(())
     }
 }

@@ -72,6 +72,7 @@ pub(crate) const K: [u32; 64] = [
     0xC671_78F2,
 ];
 
+// Not one over const parameters, for the reason that stands at `big0`.
 fn small0(x: u32) -> u32
     ensures { result ≡ smallZero x }
 {
@@ -95,10 +96,12 @@ fn word(w16: u32, w15: u32, w7: u32, w2: u32) -> u32
 
 // Renews the words from `from` up to `to`, of a window of which those before are renewed.
 pub(crate) fn renew(r: &mut [u32; 16], from: usize, to: usize)
-    requires { (from ≤ to) × (to ≤ 16) }
+    requires rising { from ≤ to }
+    requires within { to ≤ 16 }
     ensures rolled { (k : List ℕ) → length k ≡ 16 → Rolled fresh k r.old from → Rolled fresh k r.new to }
     ensures kept { take from r.new ≡ take from r.old }
 {
+    // by index: each word is made of four words of the same window, old and new
     for i in from..to {
         r[i] = word(r[i], r[(i + 1) % 16], r[(i + 9) % 16], r[(i + 14) % 16]);
     }

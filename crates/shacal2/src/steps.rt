@@ -8,16 +8,17 @@ use words::{choose, majority};
 // The eight words that the steps work on.
 #[derive(Clone, Copy)]
 pub(crate) struct State {
-    pub(crate) a: u32,
-    pub(crate) b: u32,
-    pub(crate) c: u32,
-    pub(crate) d: u32,
-    pub(crate) e: u32,
-    pub(crate) f: u32,
-    pub(crate) g: u32,
-    pub(crate) h: u32,
+    a: u32,
+    b: u32,
+    c: u32,
+    d: u32,
+    e: u32,
+    f: u32,
+    g: u32,
+    h: u32,
 }
 
+// Not one over const parameters: tried, it needs six bounds on them and a proof, and these two need neither.
 fn big0(x: u32) -> u32
     ensures { result ≡ bigZero x }
 {
@@ -76,58 +77,46 @@ impl State {
     }
 }
 
-// Steps over the words w, with the constants k beside them.
-pub(crate) fn turning(k: &[u32], w: &[u32], block: State) -> State
-    requires { length k.now ≡ length w.now }
+// Steps over the words w, each with the constant beside it, as far as both go.
+pub(crate) fn forward(k: &[u32], w: &[u32], block: State) -> State
     ensures { row result ≡ phase k.now w.now (row block) }
 {
-    let mut s = block;
-    for i in 0..w.len() {
-        s = s.turn(k[i], w[i]);
-    }
-    s
+    k.iter()
+        .zip(w.iter())
+        .fold(block, |s, (k, w)| s.turn(*k, *w))
 }
 
 // The same steps undone, the last first.
-pub(crate) fn unturning(k: &[u32], w: &[u32], block: State) -> State
+pub(crate) fn backward(k: &[u32], w: &[u32], block: State) -> State
     requires { length k.now ≡ length w.now }
     ensures { row result ≡ unphase k.now w.now (row block) }
 {
-    let mut s = block;
-    for i in (0..w.len()).rev() {
-        s = s.unturn(k[i], w[i]);
-    }
-    s
+    let back = k.iter().rev().zip(w.iter().rev());
+    back.fold(block, |s, (k, w)| s.unturn(*k, *w))
 }
 
-// The words of a block.
-pub(crate) fn load(block: &[u32]) -> State
-    requires { length block.now ≡ 8 }
-    ensures { row result ≡ block.now }
-{
-    State {
-        a: block[0],
-        b: block[1],
-        c: block[2],
-        d: block[3],
-        e: block[4],
-        f: block[5],
-        g: block[6],
-        h: block[7],
+impl From<[u32; 8]> for State {
+    ghost from_gives = { λ words s. row s ≡ words };
+
+    fn from(words: [u32; 8]) -> State {
+        let [a, b, c, d, e, f, g, h] = words;
+        State {
+            a,
+            b,
+            c,
+            d,
+            e,
+            f,
+            g,
+            h,
+        }
     }
 }
 
-// The words into a block.
-pub(crate) fn store(s: State, block: &mut [u32])
-    requires { length block.old ≡ 8 }
-    ensures { block.new ≡ row s }
-{
-    block[0] = s.a;
-    block[1] = s.b;
-    block[2] = s.c;
-    block[3] = s.d;
-    block[4] = s.e;
-    block[5] = s.f;
-    block[6] = s.g;
-    block[7] = s.h;
+impl From<State> for [u32; 8] {
+    ghost from_gives = { λ s words. words ≡ row s };
+
+    fn from(s: State) -> [u32; 8] {
+        [s.a, s.b, s.c, s.d, s.e, s.f, s.g, s.h]
+    }
 }

@@ -1,4 +1,4 @@
-ghost use Rattle.std.specs.Prelude.{◌≡◌, ℕ, ◌+◌, ◌<◌, ◌≤◌, true, false, List, replicate, Ok, Err};
+ghost use Rattle.std.specs.Prelude.{◌≡◌, ℕ, ◌+◌, ◌<◌, ◌≤◌, true, false, List, replicate, MatchResult};
 ghost use Rattle.faults.specs.declared.grounds.TimetableFault.TheVariants.{Base, Closed};
 ghost use Rattle.timetable.specs.Hours.{bit_at, opens_at, ever_open, Next, next};
 
@@ -26,14 +26,14 @@ impl BaseHour {
     // A base hour, or a refusal where it is over 1,000,000. A constructor and no `TryFrom`, beside one that takes a
     // place.
     pub fn new(hour: u32) -> Result<BaseHour, TimetableFault>
-        ensures { elim result [ Ok b ↦ (b.hour ≡ hour) × (hour ≤ 1000000) | Err f ↦ (f ≡ Base 0) × (1000000 < hour) ] }
+        ensures { MatchResult result (λ b. (b.hour ≡ hour) × (hour ≤ 1000000)) (λ f. (f ≡ Base 0) × (1000000 < hour)) }
     {
         BaseHour::at(0, hour)
     }
 
     // The same, of an hour that stands at a byte of a sheet: the refusal tells that place.
     pub fn at(place: usize, hour: u32) -> Result<BaseHour, TimetableFault>
-        ensures { elim result [ Ok b ↦ (b.hour ≡ hour) × (hour ≤ 1000000) | Err f ↦ (f ≡ Base place) × (1000000 < hour) ] }
+        ensures { MatchResult result (λ b. (b.hour ≡ hour) × (hour ≤ 1000000)) (λ f. (f ≡ Base place) × (1000000 < hour)) }
     {
         if hour > 1_000_000 {
             return Err(TimetableFault::Base(place));
@@ -52,14 +52,14 @@ impl BaseHour {
 impl Timetable {
     // A timetable, or a refusal where no hour is open. A constructor and no `TryFrom`, as above.
     pub fn new(bytes: [u8; 21]) -> Result<Timetable, TimetableFault>
-        ensures { elim result [ Ok t ↦ (t.bytes ≡ bytes) × (ever_open bytes ≡ true) | Err f ↦ (f ≡ Closed 0) × (ever_open bytes ≡ false) ] }
+        ensures { MatchResult result (λ t. (t.bytes ≡ bytes) × (ever_open bytes ≡ true)) (λ f. (f ≡ Closed 0) × (ever_open bytes ≡ false)) }
     {
         Timetable::at(0, bytes)
     }
 
     // The same, of bytes that begin at a byte of a sheet: the refusal tells that place.
     pub fn at(place: usize, bytes: [u8; 21]) -> Result<Timetable, TimetableFault>
-        ensures { elim result [ Ok t ↦ (t.bytes ≡ bytes) × (ever_open bytes ≡ true) | Err f ↦ (f ≡ Closed place) × (ever_open bytes ≡ false) ] }
+        ensures { MatchResult result (λ t. (t.bytes ≡ bytes) × (ever_open bytes ≡ true)) (λ f. (f ≡ Closed place) × (ever_open bytes ≡ false)) }
     {
         if !any_open(&bytes) {
             return Err(TimetableFault::Closed(place));

@@ -64,11 +64,6 @@ written_more ws out old wb i h k e q =
     ∙ ap (λ z. z ++ drop (4 * i + 4) old) (sym more)
     ∙ ap (λ z. bytes (take (i + 1) ws) ++ drop z old) m
 
--- all are written
-pub written_all : (ws out old : List ℕ) (i : ℕ) → i ≡ length ws → out ≡ bytes (take i ws) ++ drop (4 * i) old → out ≡ bytes ws ++ drop (4 * length ws) old
-written_all ws out old i e q =
-    q ∙ ap (λ z. bytes (take z ws) ++ drop (4 * z) old) e ∙ ap (λ z. bytes z ++ drop (4 * length ws) old) (take_all (length ws) ws (omega arith))
-
 -- a buffer as long as the bytes holds them and no more
 pub fills_whole : (bs old new : List ℕ) (r : Result ℕ BufferFault) → length old ≡ length bs → Fills bs old new r → new ≡ bs
 fills_whole bs old new (Ok n) l (e, h, q) = q ∙ ap (λ z. bs ++ z) (drop_all n old (omega arith)) ∙ append-nil bs

@@ -1,5 +1,4 @@
 -- The parts of the code make up the whole cipher. Assumes nothing.
-use Rattle.std.proofs.Common.{refl}
 use Rattle.shacal1.specs.Phases.{row}
 use Rattle.shacal1.proofs.Parts.{dec_chain}
 use Rattle.shacal1.proofs.deciphered.Goals as goal
@@ -8,7 +7,5 @@ pub returns : goal.returns
 returns c =
     dec_chain c.args.key.now c.renewed-w1.result c.renewed-w2.result c.renewed-w3.result c.renewed-w4.result (row c.args.block)
     c.told-key c.renewed-w1.ensures c.renewed-w2.ensures c.renewed-w3.ensures c.renewed-w4.ensures
-    (row c.args.block)
-    (row c.unmixing-s.result) (row c.unmixing-s-2.result) (row c.unvoting-s.result) (row c.unvoting-s-2.result) (row c.unmixing-s-3.result) (row c.unmixing-s-4.result) (row c.unchoosing-s.result) (row c.unchoosing.result)
-    refl
-    c.unmixing-s.ensures c.unmixing-s-2.ensures c.unvoting-s.ensures c.unvoting-s-2.ensures c.unmixing-s-3.ensures c.unmixing-s-4.ensures c.unchoosing-s.ensures c.unchoosing.ensures
+    (row c.backward-s.result) (row c.backward-s-2.result) (row c.backward-s-3.result) (row c.backward-s-4.result) (row c.backward-s-5.result) (row c.backward-s-6.result) (row c.backward-s-7.result) (row c.backward.result)
+    c.backward-s.ensures c.backward-s-2.ensures c.backward-s-3.ensures c.backward-s-4.ensures c.backward-s-5.ensures c.backward-s-6.ensures c.backward-s-7.ensures c.backward.ensures

@@ -9,5 +9,5 @@ unfolding constants
 returns c =
     dec_chain c.args.key.now c.renewed-w1.result c.renewed-w2.result c.renewed-w3.result (row c.args.block)
     c.told-key c.renewed-w1.ensures c.renewed-w2.ensures c.renewed-w3.ensures
-    (row c.unturning-s.result) (row c.unturning-s-2.result) (row c.unturning-s-3.result) (row c.unturning-s-4.result) (row c.unturning-s-5.result) (row c.unturning-s-6.result) (row c.unturning-s-7.result) (row c.unturning.result)
-    c.unturning-s.ensures c.unturning-s-2.ensures c.unturning-s-3.ensures c.unturning-s-4.ensures c.unturning-s-5.ensures c.unturning-s-6.ensures c.unturning-s-7.ensures c.unturning.ensures
+    (row c.backward-s.result) (row c.backward-s-2.result) (row c.backward-s-3.result) (row c.backward-s-4.result) (row c.backward-s-5.result) (row c.backward-s-6.result) (row c.backward-s-7.result) (row c.backward.result)
+    c.backward-s.ensures c.backward-s-2.ensures c.backward-s-3.ensures c.backward-s-4.ensures c.backward-s-5.ensures c.backward-s-6.ensures c.backward-s-7.ensures c.backward.ensures

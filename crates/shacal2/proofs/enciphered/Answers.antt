@@ -11,5 +11,5 @@ returns c =
     (record { half = c.renew.ensures.rolled; whole = c.renew-2.ensures.rolled; kept = c.renew-2.ensures.kept })
     (record { half = c.renew-3.ensures.rolled; whole = c.renew-4.ensures.rolled; kept = c.renew-4.ensures.kept })
     (record { half = c.renew-5.ensures.rolled; whole = c.renew-6.ensures.rolled; kept = c.renew-6.ensures.kept })
-    (row c.turning-s.result) (row c.turning-s-2.result) (row c.turning-s-3.result) (row c.turning-s-4.result) (row c.turning-s-5.result) (row c.turning-s-6.result) (row c.turning-s-7.result) (row c.turning.result)
-    c.turning-s.ensures c.turning-s-2.ensures c.turning-s-3.ensures c.turning-s-4.ensures c.turning-s-5.ensures c.turning-s-6.ensures c.turning-s-7.ensures c.turning.ensures
+    (row c.forward-s.result) (row c.forward-s-2.result) (row c.forward-s-3.result) (row c.forward-s-4.result) (row c.forward-s-5.result) (row c.forward-s-6.result) (row c.forward-s-7.result) (row c.forward.result)
+    c.forward-s.ensures c.forward-s-2.ensures c.forward-s-3.ensures c.forward-s-4.ensures c.forward-s-5.ensures c.forward-s-6.ensures c.forward-s-7.ensures c.forward.ensures

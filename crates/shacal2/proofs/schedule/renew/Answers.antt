@@ -1,13 +1,9 @@
-use Rattle.std.proofs.Common.{◌≡◌, refl, ◌∙◌, subst, arith}
+use Rattle.std.proofs.Common.{◌∙◌, arith}
 use Rattle.std.proofs.lemmas.List.{take-set-le}
-use Rattle.words.specs.Steps.{Rolled}
 use Rattle.words.proofs.Schedule.{rolled_more}
 use Rattle.shacal2.specs.Shacal2.{fresh}
 use Rattle.shacal2.proofs.Window.{fresh_from}
 use Rattle.shacal2.proofs.schedule.renew.Goals as goal
-
-pub loop-i-init : goal.loop-i-init
-loop-i-init c = (λ k l r. r, refl)
 
 pub loop-i-preserved : goal.loop-i-preserved
 loop-i-preserved c = (
@@ -17,8 +13,3 @@ loop-i-preserved c = (
       (c.word.ensures ∙ fresh_from k c.loop-i.r c.loop-i.i (omega arith) inv),
   take-set-le c.args.from c.loop-i.r c.loop-i.i c.word.result (omega arith) ∙ c.loop-i.invariant.1,
 )
-
-pub returns : goal.returns
-returns c =
-    let e : c.loop-i.i ≡ c.args.to = omega (arith, c.loop-i.auto.i-end c.requires.0) in
-    record { rolled = λ k l r. subst (λ n. Rolled fresh k c.loop-i.r n) e (c.loop-i.invariant.0 k l r); kept = c.loop-i.invariant.1 }

@@ -4,4 +4,4 @@ use Rattle.shacal1.proofs.steps.State.turn.Goals as goal
 
 pub returns : goal.returns
 unfolding turn sum
-returns c = cc
+returns g c = cc

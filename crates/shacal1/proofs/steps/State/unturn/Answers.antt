@@ -4,4 +4,4 @@ use Rattle.shacal1.proofs.steps.State.unturn.Goals as goal
 
 pub returns : goal.returns
 unfolding unturn sum
-returns c = cc
+returns g c = cc

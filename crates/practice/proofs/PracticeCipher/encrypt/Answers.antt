@@ -1,6 +1,0 @@
-use borrow.Author.Rules.{rules}
-use Rattle.practice.specs.Laws.{both}
-use Rattle.practice.proofs.PracticeCipher.encrypt.Goals as goal
-
-pub returns : goal.returns
-returns c = search (rules, both)
