@@ -7,7 +7,8 @@ use crate::findings::Findings;
 use bench_io::Line;
 use words::hex_digits;
 
-// Puts the last `figures` decimal digits of a number behind a line, leading zeros kept.
+// Puts the last `figures` decimal digits of a number behind a line, leading zeros kept. `{:06}` has the reason of `Line`
+// against it: the contract of `write!` says nothing of an `Err`.
 fn push_figures(line: &mut Line, figures: usize, n: u32)
     requires { length line.old + figures ≤ 128 }
     ensures after { line.new ≡ line.old ++ last_digits figures n }

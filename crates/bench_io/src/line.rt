@@ -7,6 +7,7 @@ use itoa::Buffer;
 use std::marker::Model;
 
 // What a bench prints: a line or a few, of at most 128 bytes together.
+// Parts are pushed, not written by `write!`: tried, and the proof did not close, as its contract says nothing of an `Err`.
 #[derive(Drop)]
 pub struct Line {
     text: ArrayVec<u8, 128>,

@@ -13,7 +13,8 @@ use Rattle.ledger.specs.Ledgers.{blank, register, code, seal}
 use Rattle.ledger.specs.Calls.{ground, change, reply, after, answer, answers}
 use Rattle.loading.specs.Loaded.{entered, loaded}
 use Rattle.words.specs.Hex.{hex}
-use Rattle.bench_full.specs.Lines.{last_digits, refusal_line, opening_line, code_line, seal_line}
+use Rattle.bench_io.specs.Lines.{refusal_line, opening_line}
+use Rattle.bench_full.specs.Lines.{last_digits, code_line, seal_line}
 use Rattle.bench_full.specs.Bench.{over, outcome, bench}
 use Rattle.hash.specs.Digests.{padded, cut, chain, digest}
 use Rattle.book_readings.specs.Readings.{Readings}

@@ -1,5 +1,5 @@
 -- Worked readings of the book, the trace and the bench over a book. Assumes nothing.
-use Rattle.std.specs.Prelude.{◌≡◌, ℕ, ◌/◌, ◌%◌, List, [], ◌∷◌, ◌++◌, replicate, codes}
+use Rattle.std.specs.Prelude.{◌≡◌, List, [], ◌∷◌, replicate, codes}
 use Rattle.order.specs.Orders.{delay}
 use Rattle.faults.specs.declared.grounds.BookFault.TheVariants.{Buffer, Order as ByOrder, Begun, Absent, Undone, NoDelay}
 use Rattle.faults.specs.declared.grounds.BufferFault.TheVariants.{Short}
@@ -8,15 +8,8 @@ use Rattle.ledger.specs.Ledgers.{Given, blank}
 use Rattle.ledger.specs.Calls.{Call, answers, set_up, enter, undo, relieve, ask_opening, ask_register, ask_code, ask_seal, done, number, hour, figure, written, refused}
 use Rattle.trace.specs.Walk.{Collides}
 use Rattle.bench_full.specs.Bench.{bench}
+use Rattle.readings.specs.Readings.{office, input}
 use Rattle.practice.specs.Practice.{practice}
-
--- open from 8:00 to 17:00 on five days
-abbrev pub office : List ℕ
-office = 0 ∷ 0xff ∷ 0x80 ∷ 0 ∷ 0xff ∷ 0x80 ∷ 0 ∷ 0xff ∷ 0x80 ∷ 0 ∷ 0xff ∷ 0x80 ∷ 0 ∷ 0xff ∷ 0x80 ∷ replicate 6 0
-
--- the practice cipher's mark, a start register of zeros, and a sheet with one delay from base hour 8 in the office week
-abbrev input : ℕ → List ℕ
-input a = codes "P" ++ replicate 8 0 ++ 0 ∷ 1 ∷ 0 ∷ 42 ∷ 0 ∷ 0 ∷ 0 ∷ 8 ∷ codes "SAFE0001" ++ office ++ codes "D" ++ 0 ∷ 0 ∷ a / 256 ∷ a % 256 ∷ []
 
 -- a lock as the bench loads it
 abbrev safe : Given

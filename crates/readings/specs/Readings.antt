@@ -23,7 +23,7 @@ abbrev N : ℕ → Order
 N a = record { letter = not_before; amount = a }
 
 -- the practice cipher's mark, a start register of zeros, and a sheet with one delay from base hour 8 in the office week
-abbrev input : ℕ → List ℕ
+abbrev pub input : ℕ → List ℕ
 input a = codes "P" ++ replicate 8 0 ++ 0 ∷ 1 ∷ 0 ∷ 42 ∷ 0 ∷ 0 ∷ 0 ∷ 8 ∷ codes "SAFE0001" ++ office ++ codes "D" ++ 0 ∷ 0 ∷ a / 256 ∷ a % 256 ∷ []
 
 pub record Readings : Type 0 where

@@ -40,7 +40,8 @@ fn put_amounts(orders: &[Order], out: &mut [u8])
     }
 }
 
-// Writes the sheet of a set-up and its orders to the front of a buffer, and answers its length.
+// Writes the sheet of a set-up and its orders to the front of a buffer, and answers its length. The set-up comes in the
+// three parts that a book holds: a struct of them would be made for this one call, and taken apart in it.
 pub fn write(
     name: &[u8; 8],
     base: BaseHour,
