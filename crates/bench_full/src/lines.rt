@@ -7,6 +7,14 @@ use crate::findings::Findings;
 use bench_io::Line;
 use words::hex_digits;
 
+// Puts a part that fits behind a line.
+fn put(line: &mut Line, part: &[u8])
+    requires { length line.old + length part.now ≤ 128 }
+    ensures { line.new ≡ line.old ++ part.now }
+{
+    line.push(part).unwrap();
+}
+
 // Puts the last `figures` decimal digits of a number behind a line, leading zeros kept. `{:06}` has the reason of `Line`
 // against it: the contract of `write!` says nothing of an `Err`.
 fn push_figures(line: &mut Line, figures: usize, n: u32)
@@ -18,7 +26,7 @@ fn push_figures(line: &mut Line, figures: usize, n: u32)
         return;
     }
     push_figures(line, figures - 1, n / 10);
-    line.push(&[b'0' + (n % 10) as u8]);
+    put(line, &[b'0' + (n % 10) as u8]);
 }
 
 // The same of bytes in hexadecimal digits.
@@ -28,7 +36,7 @@ fn push_hex(line: &mut Line, bytes: &[u8])
     ensures long { length line.new ≡ length line.old + 2 * length bytes.now }
 {
     for b in bytes {
-        line.push(&hex_digits(*b));
+        put(line, &hex_digits(*b));
     }
 }
 
@@ -38,11 +46,11 @@ impl From<Findings> for Line {
 
     fn from(found: Findings) -> Line {
         let mut line = Line::opening(found.opening);
-        line.push(b"code ");
+        put(&mut line, b"code ");
         push_figures(&mut line, 6, found.code);
-        line.push(b"\nseal ");
+        put(&mut line, b"\nseal ");
         push_hex(&mut line, found.seal.as_slice());
-        line.push(b"\n");
+        put(&mut line, b"\n");
         line
     }
 }

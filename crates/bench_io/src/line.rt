@@ -1,8 +1,9 @@
-ghost use Rattle.std.specs.Prelude.{◌≡◌, ◌+◌, ◌≤◌, [], ◌++◌, length, decimal};
+ghost use Rattle.std.specs.Prelude.{◌≡◌, ◌+◌, ◌<◌, ◌≤◌, [], ◌++◌, length, decimal, MatchResult};
+ghost use Rattle.faults.specs.declared.grounds.BufferFault.TheVariants as BufferFault;
 ghost use Rattle.bench_io.specs.Lines.{refusal_line, opening_line};
 
 use arrayvec::ArrayVec;
-use faults::Refusal;
+use faults::{BufferFault, Refusal};
 use itoa::Buffer;
 use std::marker::Model;
 
@@ -39,8 +40,19 @@ impl Line {
         self.text.as_slice()
     }
 
-    // Puts a part behind what is there.
-    pub fn push(&mut self, part: &[u8])
+    // Puts a part behind what is there. One that does not fit is refused, and the line stays as it was.
+    pub fn push(&mut self, part: &[u8]) -> Result<(), BufferFault>
+        ensures { MatchResult result (λ u. (length self.old + length part.now ≤ 128) × (self.new ≡ self.old ++ part.now)) (λ f. (f ≡ BufferFault.Short) × (128 < length self.old + length part.now) × (self.new ≡ self.old)) }
+    {
+        if self.text.remaining_capacity() < part.len() {
+            return Err(BufferFault::Short);
+        }
+        self.put(part);
+        Ok(())
+    }
+
+    // The same of a part that fits.
+    fn put(&mut self, part: &[u8])
         requires { length self.old + length part.now ≤ 128 }
         ensures { self.new ≡ self.old ++ part.now }
     {
@@ -48,13 +60,13 @@ impl Line {
     }
 
     // The same of a number's decimal digits, of which there are at most 20.
-    pub fn push_decimal(&mut self, n: u64)
+    fn put_decimal(&mut self, n: u64)
         requires { length self.old ≤ 108 }
         ensures after { self.new ≡ self.old ++ decimal n }
         ensures most { length self.new ≤ length self.old + 20 }
     {
         let mut digits = Buffer::new();
-        self.push(digits.format(n).as_bytes());
+        self.put(digits.format(n).as_bytes());
     }
 
     // The line of an opening hour.
@@ -64,9 +76,9 @@ impl Line {
         ensures most { length result ≤ 29 }
     {
         let mut line = Line::new();
-        line.push(b"opening ");
-        line.push_decimal(u64::from(hour));
-        line.push(b"\n");
+        line.put(b"opening ");
+        line.put_decimal(u64::from(hour));
+        line.put(b"\n");
         line
     }
 }
@@ -77,13 +89,13 @@ impl From<Refusal> for Line {
     #[tactic(auto, unfolding(crate::specs::Lines::refusal_line))]
     fn from(refusal: Refusal) -> Line {
         let mut line = Line::new();
-        line.push(b"refused ");
-        line.push_decimal(u64::from(refusal.number));
-        line.push(b" ");
-        line.push(refusal.layer.name());
-        line.push(b" ");
-        line.push_decimal(refusal.place as u64);
-        line.push(b"\n");
+        line.put(b"refused ");
+        line.put_decimal(u64::from(refusal.number));
+        line.put(b" ");
+        line.put(refusal.layer.name());
+        line.put(b" ");
+        line.put_decimal(refusal.place as u64);
+        line.put(b"\n");
         line
     }
 }

@@ -5,13 +5,13 @@ use Rattle.bench_full.proofs.lines.push_hex.Goals as goal
 pub loop-b-init : goal.loop-b-init
 loop-b-init c = record { after = hex_none _; long = omega arith }
 
-pub push-requires : goal.push-requires
-push-requires c = omega (arith, ap length c.hex_digits.ensures)
+pub put-requires : goal.put-requires
+put-requires c = omega (arith, ap length c.hex_digits.ensures)
 
 pub loop-b-preserved : goal.loop-b-preserved
 loop-b-preserved c = record {
-  after = hex_more c.args.bytes.now c.hex_digits.result _ _ _ c.loop-b.b-index c.loop-b-test.true c.hex_digits.ensures c.loop-b.invariant.after c.push.ensures;
-  long = omega (arith, ap length c.hex_digits.ensures, ap length c.push.ensures, length-append c.loop-b.line c.hex_digits.result);
+  after = hex_more c.args.bytes.now c.hex_digits.result _ _ _ c.loop-b.b-index c.loop-b-test.true c.hex_digits.ensures c.loop-b.invariant.after c.put.ensures;
+  long = omega (arith, ap length c.hex_digits.ensures, ap length c.put.ensures, length-append c.loop-b.line c.hex_digits.result);
 }
 
 pub returns-clause-after : goal.returns-clause-after

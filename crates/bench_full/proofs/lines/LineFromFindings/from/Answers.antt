@@ -10,9 +10,9 @@ unfolding opening_line code_line seal_line
 returns c =
     let found = c.args.found in
     let seal = found.seal.items in
-    let code = c.push.ensures ∙ ap (λ (x : List ℕ). x ++ codes "code ") c.opening-line.ensures.line in
+    let code = c.put.ensures ∙ ap (λ (x : List ℕ). x ++ codes "code ") c.opening-line.ensures.line in
     let figures = c.push_figures.ensures.after ∙ ap (λ (x : List ℕ). x ++ last_digits 6 found.code) code in
-    let sealed = c.push-2.ensures ∙ ap (λ (x : List ℕ). x ++ codes "\nseal ") figures in
+    let sealed = c.put-2.ensures ∙ ap (λ (x : List ℕ). x ++ codes "\nseal ") figures in
     let digits = c.push_hex.ensures.after ∙ (λ i. sealed i ++ hex (c.as_slice.ensures.value i)) in
-    let all = c.push-3.ensures ∙ ap (λ (x : List ℕ). x ++ codes "\n") digits in
+    let all = c.put-3.ensures ∙ ap (λ (x : List ℕ). x ++ codes "\n") digits in
     all ∙ three_lines (codes "opening ") (decimal found.opening) (codes "\n") (codes "code ") (last_digits 6 found.code) (codes "seal ") (hex seal)
