@@ -17,7 +17,7 @@ use words::put;
 
 // What a book shows. No digest has more than eight words.
 fn ask<C: Cipher>(book: &Book<C>) -> Findings
-    ensures { Shows (C.Cipher.meaning book.now.cipher) (told (C.Cipher.meaning book.now.cipher) book.now) result }
+    ensures { Shows (C.meaning book.now.cipher) (told (C.meaning book.now.cipher) book.now) result }
 {
     let mut room = [0u8; 32];
     let count = book.seal(&mut room).unwrap();
@@ -32,7 +32,7 @@ fn ask<C: Cipher>(book: &Book<C>) -> Findings
 
 // What stands behind a mark: a start register and a sheet.
 fn answer_over<C: Cipher + Drop>(cipher: C, rest: &[u8]) -> Result<Findings, BenchFault>
-    ensures { over (C.Cipher.meaning cipher) rest.now ≡ found result }
+    ensures { over (C.meaning cipher) rest.now ≡ found result }
 {
     let n = 4 * cipher.width();
     let (register, sheet) = rest.split_at_checked(n).ok_or(CipherFault::Block)?;

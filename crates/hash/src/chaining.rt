@@ -19,7 +19,7 @@ impl<'a, C: Cipher> Chain<'a, C> {
     // The cipher's initial value.
     pub fn new(cipher: &'a C) -> Chain<'a, C>
         ensures same { result.cipher.now ≡ cipher.now }
-        ensures begun { value_of (C.Cipher.meaning cipher.now) result.places ≡ (C.Cipher.meaning cipher.now).initial }
+        ensures begun { value_of (C.meaning cipher.now) result.places ≡ (C.meaning cipher.now).initial }
     {
         let places = cipher.initial().eight();
         Chain { cipher, places }
@@ -27,8 +27,8 @@ impl<'a, C: Cipher> Chain<'a, C> {
 
     // The words.
     pub fn words(&self) -> &[u32]
-        ensures are { result.now ≡ value_of (C.Cipher.meaning self.now.cipher.now) self.now.places }
-        ensures long { length result.now ≡ (C.Cipher.meaning self.now.cipher.now).width }
+        ensures are { result.now ≡ value_of (C.meaning self.now.cipher.now) self.now.places }
+        ensures long { length result.now ≡ (C.meaning self.now.cipher.now).width }
     {
         &self.places[0..self.cipher.width()]
     }
@@ -36,7 +36,7 @@ impl<'a, C: Cipher> Chain<'a, C> {
     // The feed-forward step under a block.
     pub fn step(&mut self, block: &[u32; 16])
         ensures same { self.new.cipher.now ≡ self.old.cipher.now }
-        ensures stepped { value_of (C.Cipher.meaning self.old.cipher.now) self.new.places ≡ forward_of (C.Cipher.meaning self.old.cipher.now) (value_of (C.Cipher.meaning self.old.cipher.now) self.old.places) block.now }
+        ensures stepped { value_of (C.meaning self.old.cipher.now) self.new.places ≡ forward_of (C.meaning self.old.cipher.now) (value_of (C.meaning self.old.cipher.now) self.old.places) block.now }
     {
         let n = self.cipher.width();
         // the value has the cipher's width, so that no step is refused
@@ -46,7 +46,7 @@ impl<'a, C: Cipher> Chain<'a, C> {
     // The same under a block of bytes.
     pub(crate) fn absorb(&mut self, block: &[u8; 64])
         ensures same { self.new.cipher.now ≡ self.old.cipher.now }
-        ensures stepped { value_of (C.Cipher.meaning self.old.cipher.now) self.new.places ≡ forward_of (C.Cipher.meaning self.old.cipher.now) (value_of (C.Cipher.meaning self.old.cipher.now) self.old.places) (words_of block.now) }
+        ensures stepped { value_of (C.meaning self.old.cipher.now) self.new.places ≡ forward_of (C.meaning self.old.cipher.now) (value_of (C.meaning self.old.cipher.now) self.old.places) (words_of block.now) }
     {
         let mut words = [0; 16];
         let _ = read_words(block, &mut words);
@@ -56,7 +56,7 @@ impl<'a, C: Cipher> Chain<'a, C> {
     // The same under blocks of bytes, one after the other.
     pub(crate) fn absorb_all(&mut self, blocks: &[[u8; 64]])
         ensures same { self.new.cipher.now ≡ self.old.cipher.now }
-        ensures stepped { value_of (C.Cipher.meaning self.old.cipher.now) self.new.places ≡ chain_of (C.Cipher.meaning self.old.cipher.now) (value_of (C.Cipher.meaning self.old.cipher.now) self.old.places) (map words_of blocks.now) }
+        ensures stepped { value_of (C.meaning self.old.cipher.now) self.new.places ≡ chain_of (C.meaning self.old.cipher.now) (value_of (C.meaning self.old.cipher.now) self.old.places) (map words_of blocks.now) }
     {
         for block in blocks {
             self.absorb(block);

@@ -29,7 +29,7 @@ impl<'a, C: Cipher> Message<'a, C> {
     // The one or two last blocks.
     pub(crate) fn close(&mut self)
         ensures cipher { self.new.chain.cipher.now ≡ self.old.chain.cipher.now }
-        ensures closed { (bs : List ℕ) → Open (C.Cipher.meaning self.old.chain.cipher.now) self.old.count self.old.tail self.old.chain.places bs → value_of (C.Cipher.meaning self.old.chain.cipher.now) self.new.chain.places ≡ digest (C.Cipher.meaning self.old.chain.cipher.now) bs }
+        ensures closed { (bs : List ℕ) → Open (C.meaning self.old.chain.cipher.now) self.old.count self.old.tail self.old.chain.places bs → value_of (C.meaning self.old.chain.cipher.now) self.new.chain.places ≡ digest (C.meaning self.old.chain.cipher.now) bs }
     {
         let count = self.count;
         let used = count % 64;

@@ -9,7 +9,7 @@ impl<'a, C: Cipher> Message<'a, C> {
     pub(crate) fn grow(&mut self, data: &[u8])
         ensures cipher { self.new.chain.cipher.now ≡ self.old.chain.cipher.now }
         ensures count { self.new.count ≡ self.old.count }
-        ensures stands { (bs : List ℕ) → Open (C.Cipher.meaning self.old.chain.cipher.now) self.old.count self.old.tail self.old.chain.places bs → Open (C.Cipher.meaning self.old.chain.cipher.now) (self.old.count + length «data».now) self.new.tail self.new.chain.places (bs ++ «data».now) }
+        ensures stands { (bs : List ℕ) → Open (C.meaning self.old.chain.cipher.now) self.old.count self.old.tail self.old.chain.places bs → Open (C.meaning self.old.chain.cipher.now) (self.old.count + length «data».now) self.new.tail self.new.chain.places (bs ++ «data».now) }
     {
         let used = self.count % 64;
         let room = 64 - used;

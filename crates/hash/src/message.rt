@@ -24,7 +24,7 @@ impl<'a, C: Cipher> Message<'a, C> {
     // A message of no bytes.
     pub fn new(cipher: &'a C) -> Message<'a, C>
         ensures same { result.chain.cipher.now ≡ cipher.now }
-        ensures begun { Open (C.Cipher.meaning cipher.now) result.count result.tail result.chain.places [] }
+        ensures begun { Open (C.meaning cipher.now) result.count result.tail result.chain.places [] }
     {
         Message {
             chain: Chain::new(cipher),
@@ -39,7 +39,7 @@ impl<'a, C: Cipher> Message<'a, C> {
         ensures same { self.new.chain.cipher.now ≡ self.old.chain.cipher.now }
         ensures counts { MatchResult result (λ u. self.new.count ≡ self.old.count + length «data».now) (λ f. self.new ≡ self.old) }
         ensures bytes { Below (2 ^ 8) «data».now }
-        ensures stands { MatchResult result (λ u. (bs : List ℕ) → Open (C.Cipher.meaning self.old.chain.cipher.now) self.old.count self.old.tail self.old.chain.places bs → Open (C.Cipher.meaning self.old.chain.cipher.now) self.new.count self.new.tail self.new.chain.places (bs ++ «data».now)) (λ f. self.new ≡ self.old) }
+        ensures stands { MatchResult result (λ u. (bs : List ℕ) → Open (C.meaning self.old.chain.cipher.now) self.old.count self.old.tail self.old.chain.places bs → Open (C.meaning self.old.chain.cipher.now) self.new.count self.new.tail self.new.chain.places (bs ++ «data».now)) (λ f. self.new ≡ self.old) }
     {
         if data.len() > LIMIT - self.count {
             return Err(MessageFault::Limit);
@@ -51,7 +51,7 @@ impl<'a, C: Cipher> Message<'a, C> {
 
     // The digest of all bytes that were added. The message is used up.
     pub fn finish(mut self) -> Block
-        ensures { (bs : List ℕ) → Open (C.Cipher.meaning self.entry.chain.cipher.now) self.entry.count self.entry.tail self.entry.chain.places bs → held result ≡ digest (C.Cipher.meaning self.entry.chain.cipher.now) bs }
+        ensures { (bs : List ℕ) → Open (C.meaning self.entry.chain.cipher.now) self.entry.count self.entry.tail self.entry.chain.places bs → held result ≡ digest (C.meaning self.entry.chain.cipher.now) bs }
     {
         self.close();
         let Message {

@@ -8,8 +8,8 @@ use words::Block;
 
 // The digest of parts, as of the bytes that they join to.
 pub fn digest_of<C: Cipher>(cipher: &C, parts: &[&[u8]]) -> Result<Block, MessageFault>
-    ensures hashes { Hashes (C.Cipher.meaning cipher.now) parts.now result }
-    ensures measured { Measured (C.Cipher.meaning cipher.now) parts.now result }
+    ensures hashes { Hashes (C.meaning cipher.now) parts.now result }
+    ensures measured { Measured (C.meaning cipher.now) parts.now result }
 {
     let mut message = Message::new(cipher);
     for part in parts {

@@ -13,9 +13,9 @@ pub fn forward<C: Cipher>(
     chain: &mut [u32],
     block: &[u32; 16],
 ) -> Result<(), CipherFault>
-    ensures answer { result ≡ told (C.Cipher.meaning cipher.now).width chain.old }
-    ensures chain { chain.new ≡ turned (C.Cipher.meaning cipher.now).width (λ h. forward_of (C.Cipher.meaning cipher.now) h block.now) chain.old }
-    ensures stepped { length chain.old ≡ (C.Cipher.meaning cipher.now).width → chain.new ≡ forward_of (C.Cipher.meaning cipher.now) chain.old block.now }
+    ensures answer { result ≡ told (C.meaning cipher.now).width chain.old }
+    ensures chain { chain.new ≡ turned (C.meaning cipher.now).width (λ h. forward_of (C.meaning cipher.now) h block.now) chain.old }
+    ensures stepped { length chain.old ≡ (C.meaning cipher.now).width → chain.new ≡ forward_of (C.meaning cipher.now) chain.old block.now }
 {
     // the compiler knows the cipher's word count, and not the length of the slice
     let n = cipher.width();

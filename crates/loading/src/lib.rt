@@ -17,9 +17,9 @@ use words::read_words;
 
 // The orders of a sheet, one after the other.
 fn enter_all<C: Cipher>(book: &mut Book<C>, reader: &Reader<'_>)
-    requires { (told (C.Cipher.meaning book.old.cipher) book.old).lines ≡ [] }
+    requires { (told (C.meaning book.old.cipher) book.old).lines ≡ [] }
     ensures same { book.new.cipher ≡ book.old.cipher }
-    ensures after { told (C.Cipher.meaning book.old.cipher) book.new ≡ record { given = (told (C.Cipher.meaning book.old.cipher) book.old).given; lines = entered (orders reader.now.sheet.bytes.now) } }
+    ensures after { told (C.meaning book.old.cipher) book.new ≡ record { given = (told (C.meaning book.old.cipher) book.old).given; lines = entered (orders reader.now.sheet.bytes.now) } }
 {
     let mut rest = reader.orders();
     while let Some(order) = rest.next() {
@@ -29,9 +29,9 @@ fn enter_all<C: Cipher>(book: &mut Book<C>, reader: &Reader<'_>)
 
 // A book of an accepted sheet.
 fn open<C: Cipher>(cipher: C, start: &[u32], reader: &Reader<'_>) -> Book<C>
-    requires { length start.now ≡ (C.Cipher.meaning cipher).width }
+    requires { length start.now ≡ (C.meaning cipher).width }
     ensures same { result.cipher ≡ cipher }
-    ensures value { told (C.Cipher.meaning cipher) result ≡ loaded start.now reader.now.sheet.bytes.now }
+    ensures value { told (C.meaning cipher) result ≡ loaded start.now reader.now.sheet.bytes.now }
 {
     let mut book = Book::new(cipher);
     let _ = book.set_up(
@@ -51,8 +51,8 @@ fn load_into<C: Cipher + Drop>(
     register: &[u8],
     sheet: &[u8],
 ) -> Result<Book<C>, BenchFault>
-    requires { length start.old ≡ (C.Cipher.meaning cipher).width }
-    ensures { Loads C.Cipher.meaning cipher register.now sheet.now result }
+    requires { length start.old ≡ (C.meaning cipher).width }
+    ensures { Loads C.meaning cipher register.now sheet.now result }
 {
     read_words(register, start)?;
     let reader = Reader::open(sheet)?;
@@ -66,7 +66,7 @@ pub fn load<C: Cipher + Drop>(
     register: &[u8],
     sheet: &[u8],
 ) -> Result<Book<C>, BenchFault>
-    ensures { Loads C.Cipher.meaning cipher register.now sheet.now result }
+    ensures { Loads C.meaning cipher register.now sheet.now result }
 {
     let width = cipher.width();
     let mut start = [0u32; 8];

@@ -17,7 +17,7 @@ mod walker;
 // The blocks, counted from 0, of the two messages at which the step collides. Refused are a message over the limit,
 // equal messages, and messages whose digests differ, looked at in this sequence.
 pub fn trace<C: Cipher>(cipher: &C, x: &[u8], y: &[u8]) -> Result<(usize, usize), TraceFault>
-    ensures { Traces (C.Cipher.meaning cipher.now) x.now y.now result }
+    ensures { Traces (C.meaning cipher.now) x.now y.now result }
 {
     let one = Padded::new(x)?;
     let other = Padded::new(y)?;

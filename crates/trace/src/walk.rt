@@ -15,9 +15,9 @@ fn in_step<C: Cipher>(x: &mut Walker<C>, y: &mut Walker<C>, count: usize) -> Opt
     requires cipher { x.old.chain.cipher.now ≡ y.old.chain.cipher.now }
     requires x_left { x.old.at + count ≡ block_count x.old.message.message.now }
     requires y_left { y.old.at + count ≡ block_count y.old.message.message.now }
-    ensures x_digest { value_of (C.Cipher.meaning x.new.chain.cipher.now) x.new.chain.places ≡ digest (C.Cipher.meaning x.old.chain.cipher.now) x.old.message.message.now }
-    ensures y_digest { value_of (C.Cipher.meaning y.new.chain.cipher.now) y.new.chain.places ≡ digest (C.Cipher.meaning y.old.chain.cipher.now) y.old.message.message.now }
-    ensures last { Last (C.Cipher.meaning x.old.chain.cipher.now) x.old.message.message.now y.old.message.message.now x.old.at y.old.at count result }
+    ensures x_digest { value_of (C.meaning x.new.chain.cipher.now) x.new.chain.places ≡ digest (C.meaning x.old.chain.cipher.now) x.old.message.message.now }
+    ensures y_digest { value_of (C.meaning y.new.chain.cipher.now) y.new.chain.places ≡ digest (C.meaning y.old.chain.cipher.now) y.old.message.message.now }
+    ensures last { Last (C.meaning x.old.chain.cipher.now) x.old.message.message.now y.old.message.message.now x.old.at y.old.at count result }
 {
     let mut last = None;
     for k in 0..count {
@@ -37,7 +37,7 @@ pub(crate) fn walk<C: Cipher>(
     y: Padded,
 ) -> Result<(usize, usize), TraceFault>
     requires { x.message.now ≢ y.message.now }
-    ensures { Traces (C.Cipher.meaning cipher.now) x.entry.message.now y.entry.message.now result }
+    ensures { Traces (C.meaning cipher.now) x.entry.message.now y.entry.message.now result }
 {
     let (m, n) = (x.block_count(), y.block_count());
     let i = m.saturating_sub(n);

@@ -15,7 +15,7 @@ pub(crate) struct Walker<'a, C: Cipher> {
     message: Padded<'a>,
     at: usize,
     ghost inside: { at ≤ block_count message.message.now },
-    ghost before: { value_of (C.Cipher.meaning chain.cipher.now) chain.places ≡ before_of (C.Cipher.meaning chain.cipher.now) message.message.now at },
+    ghost before: { value_of (C.meaning chain.cipher.now) chain.places ≡ before_of (C.meaning chain.cipher.now) message.message.now at },
 }
 
 impl<'a, C: Cipher> Walker<'a, C> {
