@@ -54,7 +54,8 @@ fn answer(input: &[u8]) -> Result<Findings, BenchFault>
     }
 }
 
-// Writes what the bench prints of an input to the front of a buffer, and answers its length.
+// Writes what the bench prints of an input to the front of a buffer, and answers its length. The same as in `bench_run`
+// but for what is found: the two stand side by side until this one takes the other's place.
 pub fn bench(input: &[u8], out: &mut [u8]) -> Result<usize, BufferFault>
     ensures fills { Fills (printed_of input.now) out.old out.new result }
     ensures short { length (printed_of input.now) ≤ 128 }

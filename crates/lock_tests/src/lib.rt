@@ -15,32 +15,32 @@ mod tests {
         0, 0xff, 0x80, 0, 0xff, 0x80, 0, 0xff, 0x80, 0, 0xff, 0x80, 0, 0xff, 0x80, 0, 0, 0, 0, 0, 0,
     ];
 
-    // The number of a refusal, and 0 where there is none.
-    fn number(r: Result<Order, OrderFault>) -> u8 {
+    // The number of a refusal, if there is one.
+    fn refused(r: Result<Order, OrderFault>) -> Option<u8> {
         match r {
-            Ok(_) => 0,
-            Err(f) => Refusal::from(f).number,
+            Ok(_) => None,
+            Err(f) => Some(Refusal::from(f).number),
         }
     }
 
     #[test]
     fn orders(rt: HostRuntime) {
         let cases = [
-            ('D', 0, 17),
-            ('D', 1, 0),
-            ('D', 720, 0),
-            ('D', 721, 17),
-            ('N', 0, 0),
-            ('N', 1_000_000, 0),
-            ('N', 1_000_001, 17),
-            ('d', 1, 16),
-            ('E', 2_000_000, 16),
+            ('D', 0, Some(17)),
+            ('D', 1, None),
+            ('D', 720, None),
+            ('D', 721, Some(17)),
+            ('N', 0, None),
+            ('N', 1_000_000, None),
+            ('N', 1_000_001, Some(17)),
+            ('d', 1, Some(16)),
+            ('E', 2_000_000, Some(16)),
             // their low bytes are those of 'D' and 'N'
-            ('\u{144}', 1, 16),
-            ('\u{14e}', 1, 16),
+            ('\u{144}', 1, Some(16)),
+            ('\u{14e}', 1, Some(16)),
         ];
         for (letter, amount, want) in cases {
-            assert_eq!(rt; number(Order::new(letter, amount)), want);
+            assert_eq!(rt; refused(Order::new(letter, amount)), want);
         }
     }
 

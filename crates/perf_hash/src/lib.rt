@@ -1,5 +1,5 @@
 // Whole messages hashed for C to call, so that they can be timed beside C. Promised: the digest is the standard's, and
-// an answer of false, for a message over the limit, leaves it as it was.
+// an answer of false, for a message over the limit, leaves it as it was. C wants a name for each, and true or false.
 #![tactic(auto)]
 
 ghost use Rattle.std.specs.Prelude.{◌≡◌, ◌≤◌, true, false, take, MatchResult};

@@ -26,6 +26,7 @@ impl Cipher for Practice {
         Block::of(&[1, 2]).unwrap()
     }
 
+    // Not one form with a closure: its contract would be longer than what these two share.
     fn encrypt(&self, key: &[u32; 16], block: &mut [u32]) -> Result<(), CipherFault> {
         let block = block.as_mut_array::<2>().ok_or(CipherFault::Block)?;
         let [x, y] = *block;

@@ -92,6 +92,7 @@ impl<'a> SizedBytes<'a> {
     pub(crate) fn check_orders(&self) -> Result<(), SheetFault>
         ensures { Tells (orders_checks self.now.bytes.now 0 (orders self.now.bytes.now)) result }
     {
+        // by number: an order is made of its number's two places
         for i in 0..self.count {
             let _order = self.order(i)?;
         }
