@@ -9,7 +9,7 @@ use std::io;
 use std::io::{Read, Write};
 
 // Reads until the input ends or the buffer is full, and answers how many bytes came. A short read is not the end.
-// The count is kept by hand: `read_exact` refuses a short input, and `read_to_end` fills a `Vec` and promises no length.
+// The count is kept by hand: `read_exact` refuses a short input, and `read_to_end` fills a `Vec` and promises no bound.
 fn fill<R: Read>(from: &mut R, buffer: &mut [u8; 512]) -> io::Result<usize>
     ensures { IfOk result (λ n. n ≤ 512) }
 {

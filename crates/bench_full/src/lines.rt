@@ -7,7 +7,7 @@ use crate::findings::Findings;
 use bench_io::Line;
 use words::hex_digits;
 
-// Puts a part that fits behind a line.
+// Puts a part that fits behind a line, which by itself refuses one that does not.
 fn put(line: &mut Line, part: &[u8])
     requires { length line.old + length part.now ≤ 128 }
     ensures { line.new ≡ line.old ++ part.now }

@@ -9,7 +9,7 @@ use order::Orders;
 use sheet::Reader;
 use timetable::{BaseHour, Timetable};
 
-// The orders of a sheet, one after the other.
+// The orders of a sheet, one after the other: an option of an order, taken apart by the loop, is the form asked for.
 fn load(reader: &Reader<'_>) -> Orders
     ensures { listed result ≡ orders_of reader.now.sheet.bytes.now }
 {

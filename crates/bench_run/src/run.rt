@@ -16,7 +16,7 @@ fn answer(input: &[u8]) -> Result<u32, BenchFault>
     };
     let n = Mark::try_from(*mark)?.register_length();
     let (_register, sheet) = rest.split_at_checked(n).ok_or(CipherFault::Block)?;
-    // `?` wraps the sheet's fault, the form that the client named
+    // `?` wraps the sheet's fault by `From`, the form asked for
     Ok(opening(sheet)?)
 }
 

@@ -1,19 +1,12 @@
-ghost use Rattle.std.specs.Prelude.{◌≡◌, ◌%◌, ◌^◌, ◌≤◌, length, take, slice_index};
-ghost use Rattle.words.specs.Words.{Below, Row, bytes as bytes_of};
+ghost use Rattle.std.specs.Prelude.{◌≡◌, ◌≤◌, length, take};
+ghost use Rattle.words.specs.Words.{Row};
 ghost use Rattle.words.specs.Blocks.{held};
-ghost use Rattle.words.specs.Buffer.{Fills};
-ghost use Rattle.order.specs.Views.{listed};
 ghost use Rattle.turning.specs.Turned.{Name};
 ghost use Rattle.hash.specs.Digests.{digest as digest_of};
-ghost use Rattle.sheet.specs.Sheets.{sheet as sheet_of};
 
 use cipher::Cipher;
-use faults::BufferFault;
 use hash::digest_of;
-use order::Orders;
-use sheet::write;
-use timetable::{BaseHour, Timetable};
-use words::{Block, put_words};
+use words::Block;
 
 // What the types tell of each element, said for a caller that has them in a book. As ghost fields of the book it was
 // tried, and the proof didn't close: of an array handed on by `&mut` a caller is told no element's range.

@@ -1,4 +1,4 @@
-ghost use Rattle.std.specs.Prelude.{◌≡◌, IfOk};
+ghost use Rattle.std.specs.Prelude.{IfOk};
 ghost use Rattle.book.specs.Told.{Does};
 ghost use Rattle.calls.specs.Runs.{asked, said, Ran};
 

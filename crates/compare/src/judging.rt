@@ -1,6 +1,6 @@
-ghost use Rattle.std.specs.Prelude.{◌≡◌, ◌≤◌, length, take, MatchBool, ◌≢◌};
+ghost use Rattle.std.specs.Prelude.{◌≡◌, ◌≤◌, length, MatchBool, ◌≢◌};
 ghost use Rattle.words.specs.Words.{bytes as bytes_of};
-ghost use Rattle.ledger.specs.Ledgers.{Sound, sheet as sheet_of, seal as seal_of};
+ghost use Rattle.ledger.specs.Ledgers.{seal as seal_of};
 ghost use Rattle.book.specs.Told.{told};
 ghost use Rattle.compare.specs.Alike.{NothingLeftBehind, SharedSealCollides};
 ghost use Rattle.compare.specs.Verdicts.{Judges, Compares, collision};

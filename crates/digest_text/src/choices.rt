@@ -1,4 +1,5 @@
 // Which hash to take.
+ghost use Rattle.std.specs.Prelude.{codes, Some};
 ghost use Rattle.digest_text.specs.Texts.{Chosen};
 
 use std::error::Error;
@@ -33,6 +34,8 @@ impl FromStr for Choice {
 }
 
 impl fmt::Display for UnknownChoice {
+    ghost output = { λ _. Some (codes "the argument is 1, 2 or P, or there is none") };
+
     fn fmt<W: fmt::Write>(&self, f: &mut fmt::Formatter<W>) -> fmt::Result {
         f.write_str("the argument is 1, 2 or P, or there is none")
     }

@@ -2,10 +2,8 @@
 // Its ledger is the one that the sheet describes. For every cipher.
 #![tactic(auto)]
 
-ghost use Rattle.std.specs.Prelude.{◌≡◌, ◌*◌, [], length};
-ghost use Rattle.std.proofs.Math.Option.{none};
-ghost use Rattle.words.specs.Words.{words as words_of};
-ghost use Rattle.sheet.specs.Reading.{name, table, orders, sheet_fault};
+ghost use Rattle.std.specs.Prelude.{◌≡◌, [], length};
+ghost use Rattle.sheet.specs.Reading.{orders};
 ghost use Rattle.book.specs.Told.{told};
 ghost use Rattle.loading.specs.Loaded.{entered, loaded, Loads};
 
@@ -15,7 +13,7 @@ use faults::BenchFault;
 use sheet::Reader;
 use words::read_words;
 
-// The orders of a sheet, one after the other.
+// The orders of a sheet, one after the other: an option of an order, taken apart by the loop, is the form asked for.
 fn enter_all<C: Cipher>(book: &mut Book<C>, reader: &Reader<'_>)
     requires { (told (C.meaning book.old.cipher) book.old).lines ≡ [] }
     ensures same { book.new.cipher ≡ book.old.cipher }

@@ -108,7 +108,8 @@ mod tests {
     }
 
     // The practice cipher's mark, a start register of zeros, a sheet with the order D 10, and a byte too many.
-    // It stands in bench_full_tests too: a library for both would carry contracts and edits, and may not stop as a test does.
+    // It, `printed`, `amounts` and `room` stand in bench_full_tests too: a library for both would carry contracts and
+    // edits, and may not stop as a test does.
     const SAMPLE: &[u8; 52] =
         b"P\0\0\0\0\0\0\0\0\0\x01\0\x2a\0\0\0\x08SAFE0001\0\xff\x80\0\xff\x80\0\xff\x80\0\xff\x80\0\xff\x80\0\0\0\0\0\0D\0\0\0\x0a\0";
 
