@@ -27,8 +27,8 @@ fn fill<R: Read>(from: &mut R, buffer: &mut [u8; 512]) -> io::Result<usize>
 fn main(rt: HostRuntime) -> io::Result<()> {
     let mut input = [0u8; 512];
     let count = fill(&mut rt.stdin(), &mut input)?;
+    // no answer is longer than 128 bytes, and a bench is a device too: fixed memory, and how much of it was filled
     let mut answer = [0u8; 128];
-    // no answer is longer than 128 bytes
     let n = bench(&input[0..count], &mut answer).unwrap();
     let mut out = rt.stdout();
     out.write_all(&answer[0..n])?;

@@ -80,8 +80,3 @@ pub cut_so : {C : Type 0} (meaning : C → Meaning) (c : C) (rest rs bs : List �
 cut_so meaning c rest rs bs n r e split l =
     subst (λ (k : ℕ). Loads meaning c (take (4 * k) rest) (drop (4 * k) rest) r) e
     (subst (λ (xs : List ℕ). Loads meaning c xs (drop (4 * n) rest) r) split.1 (subst (λ (ys : List ℕ). Loads meaning c rs ys r) split.2 l))
-
--- an answer that there is room for is written
-pub written : (bs old new : List ℕ) (r : Result ℕ BufferFault) → Fills bs old new r → length bs ≤ length old → IsOk r
-written bs old new (Ok n) f h = refl
-written bs old new (Err f) e h = absurd (omega arith)

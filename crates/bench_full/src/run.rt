@@ -5,15 +5,14 @@ ghost use Rattle.bench_full.specs.Bench.{Shows, over, found, outcome, bench as p
 
 use crate::findings::Findings;
 use arrayvec::ArrayVec;
-use bench_io::{Line, Mark};
+use bench_io::{Line, Mark, print};
 use book::Book;
 use cipher::Cipher;
-use faults::{BenchFault, BufferFault, CipherFault, Refusal};
+use faults::{BenchFault, BufferFault, CipherFault};
 use loading::load;
 use practice::Practice;
 use shacal1::Shacal1;
 use shacal2::Shacal2;
-use words::put;
 
 // What a book shows. No digest has more than eight words.
 fn ask<C: Cipher>(book: &Book<C>) -> Findings
@@ -54,15 +53,11 @@ fn answer(input: &[u8]) -> Result<Findings, BenchFault>
     }
 }
 
-// Writes what the bench prints of an input to the front of a buffer, and answers its length. The same as in `bench_run`
-// but for what is found: the two stand side by side until this one takes the other's place.
+// Writes what the bench prints of an input to the front of a buffer, and answers its length. It stands beside that of
+// `bench_run` until it takes the other's place.
 pub fn bench(input: &[u8], out: &mut [u8]) -> Result<usize, BufferFault>
     ensures fills { Fills (printed_of input.now) out.old out.new result }
     ensures short { length (printed_of input.now) ≤ 128 }
 {
-    let line = match answer(input) {
-        Ok(found) => Line::from(found),
-        Err(fault) => Line::from(Refusal::from(fault)),
-    };
-    put(line.bytes(), out)
+    print(answer(input).map(Line::from), out)
 }

@@ -1,1 +1,2 @@
 pub mod ByMark
+pub mod Printed

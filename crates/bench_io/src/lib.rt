@@ -3,6 +3,8 @@
 
 mod line;
 mod mark;
+mod printing;
 
 pub use line::Line;
 pub use mark::Mark;
+pub use printing::print;

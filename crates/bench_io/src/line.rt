@@ -51,7 +51,8 @@ impl Line {
         Ok(())
     }
 
-    // The same of a part that fits.
+    // The same of a part that fits. That it does is asked, here and of the parts below and of both benches: how much
+    // room is left no type tells.
     fn put(&mut self, part: &[u8])
         requires { length self.old + length part.now ≤ 128 }
         ensures { self.new ≡ self.old ++ part.now }

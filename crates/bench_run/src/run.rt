@@ -3,9 +3,8 @@ ghost use Rattle.words.specs.Buffer.{Fills};
 ghost use Rattle.bench_run.specs.Bench.{opens, fails, outcome, bench as printed_of};
 
 use crate::load::opening;
-use bench_io::{Line, Mark};
-use faults::{BenchFault, BufferFault, CipherFault, Refusal};
-use words::put;
+use bench_io::{Line, Mark, print};
+use faults::{BenchFault, BufferFault, CipherFault};
 
 // The opening hour of an input, or its first fault.
 fn answer(input: &[u8]) -> Result<u32, BenchFault>
@@ -25,9 +24,5 @@ pub fn bench(input: &[u8], out: &mut [u8]) -> Result<usize, BufferFault>
     ensures fills { Fills (printed_of input.now) out.old out.new result }
     ensures short { length (printed_of input.now) ≤ 128 }
 {
-    let line = match answer(input) {
-        Ok(hour) => Line::opening(hour),
-        Err(fault) => Line::from(Refusal::from(fault)),
-    };
-    put(line.bytes(), out)
+    print(answer(input).map(Line::opening), out)
 }

@@ -3,16 +3,19 @@ use Rattle.std.proofs.Common.{◌≡◌, ℕ, ◌≤◌, length, take, sym, refl
 use mathlib.Core.Option.{none, some}
 use Rattle.std.proofs.lemmas.List.{length-map, length-take-le}
 use Rattle.faults.specs.declared.grounds.BookFault.{BookFault}
+use Rattle.words.specs.Words.{Row}
 use Rattle.cipher.specs.Meaning.{Meaning}
 use Rattle.order_table.specs.Lines.{Line, LinesInRange, Longest, pick}
 use Rattle.order_table.specs.Views.{view, lines_of}
 use Rattle.order_table.specs.declared.line.Table.{Table}
 use Rattle.order_table.proofs.Lined.{lines_in_range}
+use Rattle.turning.specs.Turned.{Name}
 use Rattle.ledger.specs.Ledgers.{Ledger, opening}
 use Rattle.ledger.specs.Calls.{Call, Answer, undo, relieve, number, hour, refused, Refused, ground, change, reply}
 use Rattle.ledger.specs.Told.{tells}
 use Rattle.ledger.proofs.Granted.{granted, refusal, undo_ground, relieve_granted, longest_stands}
 use Rattle.ledger.proofs.Changed.{relieves, relieve_replies}
+use Rattle.book.specs.Single.{name_prop, row_prop}
 use Rattle.book.specs.Told.{told, Does}
 use Rattle.book.specs.declared.state.Book.{Book}
 
@@ -48,9 +51,19 @@ fits b = lines_in_range (take b.table.count b.table.lines)
 pub few : {C : Type 0} (b : Book C) → length (lines_of b.table) ≤ 64
 few b = let l = length-map (take b.table.count b.table.lines) view in let k = length-take-le b.table.count b.table.lines (omega arith) in omega arith
 
--- a book whose table came back as it was
-pub same_table : {C : Type 0} (b : Book C) (t : Table) → t ≡ b.table → record { cipher = b.cipher; name = b.name; base = b.base; timetable = b.timetable; register = b.register; table = t } ≡ b
-same_table {C} b t e = ap (λ x. let d : Book C = record { cipher = b.cipher; name = b.name; base = b.base; timetable = b.timetable; register = b.register; table = x } in d) e
+-- a book whose table came back as it was, whatever shows what it keeps
+pub same_table : {C : Type 0} (b : Book C) (t : Table) (n : Name b.name) (r : Row 8 b.register) → t ≡ b.table → record { cipher = b.cipher; name = b.name; base = b.base; timetable = b.timetable; register = b.register; table = t; named = n; row = r } ≡ b
+same_table b t n r e =
+    λ i. record {
+      cipher = b.cipher;
+      name = b.name;
+      base = b.base;
+      timetable = b.timetable;
+      register = b.register;
+      table = e i;
+      named = name_prop b.name n b.named i;
+      row = row_prop 8 b.register r b.row i;
+    }
 
 -- relieve is an undo of the longest delay in force, which is never refused
 module _ {C : Type 0} (meaning : C → Meaning) (old new : Book C) (n : ℕ) (l : Line) (is : n ≡ pick (lines_of old.table)) (some_line : 1 ≤ n) (longest : Longest (lines_of old.table) n l) where

@@ -1,4 +1,4 @@
-ghost use Rattle.std.specs.Prelude.{◌≡◌, ◌≤◌, length, take};
+ghost use Rattle.std.specs.Prelude.{◌≡◌, ◌≤◌, length, take, drop};
 ghost use Rattle.ledger.specs.Ledgers.{blank};
 ghost use Rattle.ledger.specs.Calls.{set_up, enter, undo, relieve};
 ghost use Rattle.book.specs.Told.{told, set, entered, undone, Does, Relieves};
@@ -14,7 +14,8 @@ use turning::{turn_back, turn_on};
 // Puts words at the front of a register.
 fn put_front(words: &[u32], register: &mut [u32; 8])
     requires { length words.now ≤ 8 }
-    ensures { take (length words.now) register.new ≡ words.now }
+    ensures front { take (length words.now) register.new ≡ words.now }
+    ensures rest { drop (length words.now) register.new ≡ drop (length words.now) register.old }
 {
     register[..words.len()].copy_from_slice(words);
 }
@@ -25,9 +26,7 @@ impl<C: Cipher> Book<C> {
         ensures same { result.cipher ≡ cipher }
         ensures blank { told (C.meaning cipher) result ≡ blank (C.meaning cipher) }
     {
-        let Ok(base) = BaseHour::new(0) else {
-            unreachable()
-        };
+        let base = BaseHour::new(0).unwrap();
         Book {
             cipher,
             name: [0; 8],
@@ -38,7 +37,8 @@ impl<C: Cipher> Book<C> {
         }
     }
 
-    // Sets the book up, as long as it has no line.
+    // Sets the book up, as long as it has no line. The four come apart, as they are handed over: a struct of them would be
+    // made for this call and taken apart in it.
     pub fn set_up(
         &mut self,
         name: [u8; 8],

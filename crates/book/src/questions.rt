@@ -4,7 +4,7 @@ ghost use Rattle.words.specs.Buffer.{Fills};
 ghost use Rattle.ledger.specs.Ledgers.{Sound, opening, register, code, sheet, seal};
 ghost use Rattle.book.specs.Told.{told};
 
-use crate::showing::{digest, known};
+use crate::showing::digest;
 use crate::state::Book;
 use cipher::Cipher;
 use faults::BufferFault;
@@ -32,7 +32,6 @@ impl<C: Cipher> Book<C> {
         ensures fills { Fills (bytes_of (register (C.meaning self.now.cipher) (told (C.meaning self.now.cipher) self.now))) out.old out.new result }
         ensures wide { length (register (C.meaning self.now.cipher) (told (C.meaning self.now.cipher) self.now)) ≡ (C.meaning self.now.cipher).width }
     {
-        known(&self.cipher, &self.name, &self.register);
         let width = self.cipher.width();
         put_words(&self.register[..width], out)
     }
@@ -42,11 +41,9 @@ impl<C: Cipher> Book<C> {
         ensures value { result ≡ code (C.meaning self.now.cipher) (told (C.meaning self.now.cipher) self.now) }
         ensures bound { result < 1000000 }
     {
+        // there is no heap: room for eight words, which no cipher passes, and how much of it was filled
         let mut bytes = [0u8; 32];
-        let Ok(n) = self.register(&mut bytes) else {
-            // a cipher has at most eight words
-            unreachable()
-        };
+        let n = self.register(&mut bytes).unwrap();
         digest(&self.cipher, &bytes[..n]).eight()[0] % 1_000_000
     }
 
@@ -56,7 +53,6 @@ impl<C: Cipher> Book<C> {
         ensures fills { Fills (sheet (told (C.meaning self.now.cipher) self.now)) out.old out.new result }
         ensures sound { Sound (C.meaning self.now.cipher) (told (C.meaning self.now.cipher) self.now) }
     {
-        known(&self.cipher, &self.name, &self.register);
         write(
             &self.name,
             self.base,
@@ -71,11 +67,9 @@ impl<C: Cipher> Book<C> {
         ensures fills { Fills (bytes_of (seal (C.meaning self.now.cipher) (told (C.meaning self.now.cipher) self.now))) out.old out.new result }
         ensures wide { length (seal (C.meaning self.now.cipher) (told (C.meaning self.now.cipher) self.now)) ≡ (C.meaning self.now.cipher).width }
     {
+        // the same for the longest sheet
         let mut sheet = [0u8; 357];
-        let Ok(n) = self.sheet(&mut sheet) else {
-            // no sheet is longer
-            unreachable()
-        };
+        let n = self.sheet(&mut sheet).unwrap();
         let seal = digest(&self.cipher, &sheet[..n]);
         put_words(&seal.eight()[..seal.count()], out)
     }

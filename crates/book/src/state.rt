@@ -1,6 +1,12 @@
+ghost use Rattle.words.specs.Words.{Row};
+ghost use Rattle.turning.specs.Turned.{Name};
+ghost use Rattle.book.specs.Single.{name_prop, row_prop};
+
 use order_table::Table;
 use timetable::{BaseHour, Timetable};
 
+// A plain struct of cipher, name, base hour, timetable, present register and order table, which is the form that is asked
+// of a book.
 #[derive(Drop)]
 pub struct Book<C> {
     pub(crate) cipher: C,
@@ -10,4 +16,6 @@ pub struct Book<C> {
     // the front is as wide as the cipher
     pub(crate) register: [u32; 8],
     pub(crate) table: Table,
+    ghost named: { Name name } by { name_prop name },
+    ghost row: { Row 8 register } by { row_prop 8 register },
 }

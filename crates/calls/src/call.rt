@@ -3,7 +3,7 @@ ghost use Rattle.std.specs.Prelude.{◌≡◌, ◌≤◌, length};
 // A call on a book. The number behind a question is the length of the buffer offered.
 #[derive(Clone, Copy)]
 pub enum Call<'a> {
-    // name, base hour, timetable, start register
+    // name, base hour, timetable, start register, as `set_up` takes them
     SetUp([u8; 8], u32, [u8; 21], &'a [u32]),
     // letter, amount
     Enter(char, u32),

@@ -9,7 +9,7 @@ use cipher::Cipher;
 use faults::BookFault;
 use std::alloc::{AllocError, Global};
 
-// Makes a call on a book.
+// Makes a call on a book. A `match` and no closures: a list of calls is data, which is kept, compared and printed.
 pub fn apply<C: Cipher>(book: &mut Book<C>, call: Call<'_>) -> Result<Answer, BookFault>
     ensures { Does C.meaning (asked call.entry) book.old book.new (said result) }
 {

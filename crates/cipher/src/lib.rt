@@ -17,6 +17,7 @@ mod direction;
 pub use bytes::{decrypt_bytes, encrypt_bytes};
 pub use direction::{Decrypt, Direction, Encrypt};
 
+// A key and a block come apart in every call: a key stays while blocks change, and both are their callers' own.
 pub trait Cipher {
     ghost meaning: { Self → Meaning };
 

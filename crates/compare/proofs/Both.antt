@@ -90,14 +90,6 @@ bytes_one vs ws h k e = sym (words_back vs h) ∙ ap words e ∙ words_back ws k
 
 -- ---- what the code compared and traced
 
--- a seal is at most eight words
-pub seal_fits : (m : Meaning) → Lawful m → (l : Ledger) → length (seal m l) ≡ m.width → 32 < length (bytes (seal m l)) → ⊥
-seal_fits m law l wide over = omega (arith, law.most, wide, over, length_bytes (seal m l))
-
--- and a sheet 357 bytes
-pub sheet_fits : (m : Meaning) (l : Ledger) → Sound m l → 357 < length (sheet l) → ⊥
-sheet_fits m l s over = omega (arith, over, sheet_most m l s)
-
 pub decided : (r : Bool) (xs ys us vs : List ℕ) → xs ≡ us → ys ≡ vs → Decides r (xs ≡ ys) → MatchBool r (us ≡ vs) (us ≡ vs → ⊥)
 decided true xs ys us vs p q d = sym p ∙ d.0 refl ∙ q
 decided false xs ys us vs p q d = λ e. false≢true (d.1 (p ∙ e ∙ sym q))

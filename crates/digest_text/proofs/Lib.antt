@@ -1,2 +1,1 @@
-pub mod Hexed
 pub mod Lined

@@ -8,7 +8,8 @@ use crate::step::forward;
 use cipher::Cipher;
 use words::read_words;
 
-// A chaining value of a cipher: of the eight places those count that the cipher has words.
+// A chaining value of a cipher: of the eight places those count that the cipher has words. That the cipher stays is said
+// by each call, here and of a message: no type says that a reference in a `&mut` is not set to another.
 #[derive(Drop)]
 pub struct Chain<'a, C> {
     cipher: &'a C,

@@ -9,6 +9,6 @@ mod parts;
 mod step;
 
 pub use chaining::Chain;
-pub use message::Message;
+pub use message::{LIMIT, Message};
 pub use parts::digest_of;
 pub use step::forward;

@@ -9,7 +9,8 @@ use cipher::Cipher;
 use faults::MessageFault;
 use words::Block;
 
-const LIMIT: usize = 16_777_216;
+// How many bytes a message takes.
+pub const LIMIT: usize = 16_777_216;
 
 // A message that bytes are added to. It is not `Drop`: what was begun is finished.
 pub struct Message<'a, C> {
@@ -59,10 +60,7 @@ impl<'a, C: Cipher> Message<'a, C> {
             tail: _,
             count: _,
         } = self;
-        match Block::of(chain.words()) {
-            Some(digest) => digest,
-            // a cipher has one to eight words
-            None => unreachable(),
-        }
+        // a cipher has one to eight words
+        Block::of(chain.words()).unwrap()
     }
 }

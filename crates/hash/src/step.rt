@@ -22,11 +22,8 @@ pub fn forward<C: Cipher>(
     if chain.len() != n {
         return Err(CipherFault::Block);
     }
-    let Some(old) = Block::of(&chain[0..n]) else {
-        // a cipher has one to eight words
-        unreachable()
-    };
-    let before = old.eight();
+    // a cipher has one to eight words
+    let before = Block::of(&chain[0..n]).unwrap().eight();
     cipher.encrypt(block, chain)?;
     add_words(chain, &before[0..n])
 }

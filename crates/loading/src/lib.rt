@@ -57,8 +57,8 @@ fn load_into<C: Cipher + Drop>(
     Ok(open(cipher, start, &reader))
 }
 
-// A book of a start register and a sheet, both in bytes. A register of another size than the cipher's is refused, then a
-// sheet on its first fault.
+// A book of a start register and a sheet, both in bytes and each from a place of its own. A register of another size than
+// the cipher's is refused, then a sheet on its first fault.
 pub fn load<C: Cipher + Drop>(
     cipher: C,
     register: &[u8],
@@ -67,6 +67,7 @@ pub fn load<C: Cipher + Drop>(
     ensures { Loads C.meaning cipher register.now sheet.now result }
 {
     let width = cipher.width();
+    // there is no heap: room for the widest cipher, of which this one's words count
     let mut start = [0u32; 8];
     load_into(cipher, &mut start[..width], register, sheet)
 }

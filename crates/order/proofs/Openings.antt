@@ -5,7 +5,7 @@ use Rattle.std.proofs.lemmas.Bool.{cases_lt, leb-true, and_parts}
 use Rattle.timetable.specs.Hours.{opens_at, ever_open, next}
 use Rattle.timetable.proofs.Hours.{next_open, within_weeks}
 use Rattle.order.specs.Orders as orders
-use Rattle.order.specs.Orders.{delay, lettered, ranged, earliest, InRange, AllInRange, apply, applied, opening}
+use Rattle.order.specs.Orders.{delay, lettered, earliest, InRange, AllInRange, apply, applied, opening}
 use Rattle.order.specs.Kinds.{letter_of}
 use Rattle.order.specs.Views.{view}
 use Rattle.order.specs.declared.kind.Kind.{Kind}

@@ -10,6 +10,18 @@ pub enum Kind {
     NotBefore,
 }
 
+// A kind as its letter.
+impl From<Kind> for u8 {
+    ghost from_gives = { λ kind letter. letter ≡ letter_of kind };
+
+    fn from(kind: Kind) -> u8 {
+        match kind {
+            Kind::Delay => b'D',
+            Kind::NotBefore => b'N',
+        }
+    }
+}
+
 // An order whose amount is in its kind's range.
 #[derive(Clone, Copy)]
 pub struct Order {
@@ -19,7 +31,8 @@ pub struct Order {
 }
 
 // At most 64 orders, in sequence. An array with a count, since there is no heap here, and the kit's vector of fixed
-// room (`arrayvec`) is not `Copy`, which these are, and wants a default order.
+// room (`arrayvec`) is not `Copy`, which these are, and wants a default order. One type of ours for these, for the order
+// table and for what a question wrote would share `as_slice` alone: the three are made and filled in three ways.
 #[derive(Clone, Copy)]
 pub struct Orders {
     pub(crate) lines: [Order; 64],

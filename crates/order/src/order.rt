@@ -1,6 +1,5 @@
 ghost use Rattle.std.specs.Prelude.{◌≡◌, ◌^◌, ◌<◌, ◌≤◌};
 ghost use Rattle.order.specs.Orders.{earliest, apply, key_bytes, key};
-ghost use Rattle.order.specs.Kinds.{letter_of};
 ghost use Rattle.order.specs.Views.{view, Makes};
 
 use crate::kind::{Kind, Order};
@@ -9,7 +8,7 @@ use timetable::Timetable;
 
 impl Order {
     // An order of a letter and an amount: 'D' with 1 to 720 hours, 'N' with an hour up to 1,000,000. The letter is a
-    // `char`, as it is entered.
+    // `char`, as it is entered, and the two come apart: a struct of them would be an order that nobody has checked.
     pub fn new(letter: char, amount: u32) -> Result<Order, OrderFault>
         ensures { Makes 0 0 letter amount result }
     {
@@ -48,10 +47,7 @@ impl Order {
     pub fn letter(self) -> u8
         ensures { result ≡ (view self).letter }
     {
-        match self.kind {
-            Kind::Delay => b'D',
-            Kind::NotBefore => b'N',
-        }
+        u8::from(self.kind)
     }
 
     pub fn amount(self) -> u32

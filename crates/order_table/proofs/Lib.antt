@@ -1,3 +1,3 @@
 pub mod Lined
-pub mod Best
 pub mod Relieved
+pub mod Best

@@ -1,5 +1,5 @@
 -- The line that is picked is the longest delay in force. Assumes nothing.
-use Rattle.std.proofs.Common.{◌≡◌, ℕ, zero, suc, ◌+◌, ◌<◌, ◌≤◌, Bool, true, false, cond, not, ◌&&◌, eqb, ltb, leb, ◌⊎◌, List, [], ◌∷◌, Some, None, refl, ap, ◌∙◌, subst, inl, inr, arith}
+use Rattle.std.proofs.Common.{◌≡◌, ℕ, zero, suc, ◌+◌, ◌<◌, ◌≤◌, Bool, true, false, cond, not, ◌&&◌, eqb, ltb, leb, ◌⊎◌, List, [], ◌∷◌, Some, None, refl, ap, subst, inl, inr, arith}
 use mathlib.Core.Option.{none, some}
 use Rattle.std.proofs.lemmas.Bool.{false≢true, both_ways, leb-true, ltb-true, ltb-false, and_parts, and_cases}
 use Rattle.order.specs.Orders.{InRange, delay}
@@ -30,7 +30,7 @@ at_least : (b : Bool) (a : ℕ) → b ≡ true → cond b (leb 1 a && leb a 720)
 at_least true a e h = leb-true 1 a (and_parts (leb 1 a) (leb a 720) h).0
 at_least false a e h = absurd (false≢true e)
 
-some_hours : (l : Line) → InRange l.order → delays l ≡ true → 1 ≤ l.order.amount
+pub some_hours : (l : Line) → InRange l.order → delays l ≡ true → 1 ≤ l.order.amount
 some_hours l r d = at_least (eqb l.order.letter delay) l.order.amount (and_parts (not l.undone) (eqb l.order.letter delay) d).1 r.amount
 
 -- what holds of the first line and of each line after it holds of every line
@@ -100,16 +100,15 @@ unfolding Found best line
 finds n [] f = inl (refl, refl, λ k o e. no_line e)
 finds n (l ∷ ls) f = one_more n l ls (best (n + 1) ls) f.0 (finds (n + 1) ls f.1)
 
--- a search that found no hours picks none, and any other the longest delay
-pub picks : (ls : List Line) (r : ℕ × ℕ) → LinesInRange ls → r ≡ best 1 ls → ((r.1 ≡ 0) → Picks ls None) × ((r.1 ≡ 0 → ⊥) → Picks ls (Some r.0))
+-- a search that found number 0 picks none, and any other the longest delay
+pub picks : (ls : List Line) (r : ℕ × ℕ) → LinesInRange ls → r ≡ best 1 ls → ((r.0 ≡ 0) → Picks ls None) × ((1 ≤ r.0) → Picks ls (Some r.0))
 unfolding Found
 picks ls r f e =
-    let e0 = ap (λ (p : ℕ × ℕ). p.0) e in
-    let e1 = ap (λ (p : ℕ × ℕ). p.1) e in
+    let number = ap (λ (p : ℕ × ℕ). p.0) e in
     elim (finds 1 ls f) [
-      | inl z ↦ (λ h. (z.0, z.2), λ h. absurd (h (e1 ∙ z.1)))
+      | inl z ↦ (λ h. (z.0, z.2), λ h. absurd (omega (arith, number, z.0)))
       | inr b ↦ (
-        λ h. absurd (omega (arith, h, e1, b.amount, some_hours b.line b.fits b.is_longest.is_delay)),
-        λ h. (e0, omega (arith, e0, b.number), (b.line, subst (λ (n : ℕ). Longest ls n b.line) (omega (arith, e0, b.number)) b.is_longest)),
+        λ h. absurd (omega (arith, number, b.number)),
+        λ h. (number, h, (b.line, subst (λ (n : ℕ). Longest ls n b.line) (omega (arith, number, b.number)) b.is_longest)),
       )
     ]

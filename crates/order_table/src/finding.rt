@@ -1,7 +1,7 @@
-ghost use Rattle.std.specs.Prelude.{◌≡◌, ◌≤◌, true, false, map, length, MatchOption, IfSome, unwrap_or};
+ghost use Rattle.std.specs.Prelude.{◌≡◌, ◌≤◌, map, length};
 ghost use Rattle.order.specs.Views.{listed};
-ghost use Rattle.order_table.specs.Lines.{orders, best, delays, longer};
-ghost use Rattle.order_table.specs.Views.{view, Found};
+ghost use Rattle.order_table.specs.Lines.{orders};
+ghost use Rattle.order_table.specs.Views.{view, Found, Picks};
 
 use crate::line::Line;
 use faults::BookFault;
@@ -20,40 +20,17 @@ pub(crate) fn find(lines: &[Line], number: usize) -> Result<usize, BookFault>
     Ok(number - 1)
 }
 
-// The hours of a delay in force; none of any other line.
-fn hours_of(line: Line) -> Option<u32>
-    ensures { MatchOption result (delays (view line) ≡ false) (λ h. (delays (view line) ≡ true) × (h ≡ (view line).order.amount)) }
+// The number of the longest delay in force, of equals the highest number.
+pub(crate) fn longest_of(lines: &[Line]) -> Option<usize>
+    ensures { Picks (map view lines.now) result }
 {
-    match line.order.kind() {
-        Kind::Delay if !line.undone => Some(line.order.amount()),
-        _ => None,
-    }
-}
-
-// What was found behind a line, or the line by its number where it is a longer delay.
-fn or_longer(longest: Option<(usize, u32)>, number: usize, line: Line) -> Option<(usize, u32)>
-    requires { IfSome longest (λ p. 1 ≤ p.1) }
-    ensures hours { IfSome result (λ p. 1 ≤ p.1) }
-    ensures value { unwrap_or result (0, 0) ≡ longer (view line) number (unwrap_or longest (0, 0)) }
-{
-    match hours_of(line) {
-        Some(hours) if longest.is_none_or(|(_, most)| hours > most) => Some((number, hours)),
-        _ => longest,
-    }
-}
-
-// The number of the longest delay in force and its hours, of equals the highest number.
-pub(crate) fn longest_of(lines: &[Line]) -> Option<(usize, u32)>
-    ensures hours { IfSome result (λ p. 1 ≤ p.1) }
-    ensures value { unwrap_or result (0, 0) ≡ best 1 (map view lines.now) }
-{
-    let mut longest = None;
-    let mut rest = lines;
-    while let Some((line, before)) = rest.split_last() {
-        longest = or_longer(longest, rest.len(), *line);
-        rest = before;
-    }
-    longest
+    // `max_by_key` takes the last of equals
+    lines
+        .iter()
+        .enumerate()
+        .filter(|(_, line)| !line.undone && line.order.kind() == Kind::Delay)
+        .max_by_key(|(_, line)| line.order.amount())
+        .map(|(at, _)| at + 1)
 }
 
 // The orders in force among lines.

@@ -13,9 +13,7 @@ impl Table {
     pub fn new() -> Table
         ensures { lines_of result ≡ [] }
     {
-        let Ok(order) = Order::new('D', 1) else {
-            unreachable()
-        };
+        let order = Order::new('D', 1).unwrap();
         let unused = Line {
             order,
             undone: false,
@@ -65,8 +63,7 @@ impl Table {
     pub fn longest(&self) -> Option<usize>
         ensures { Picks (lines_of self.now) result }
     {
-        let (number, _) = longest_of(self.lines())?;
-        Some(number)
+        longest_of(self.lines())
     }
 
     // The orders in force, in the sequence of their numbers.

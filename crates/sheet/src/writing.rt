@@ -1,4 +1,4 @@
-ghost use Rattle.std.specs.Prelude.{◌≡◌, ◌*◌, ◌^◌, ◌≤◌, ◌++◌, map, length, drop};
+ghost use Rattle.std.specs.Prelude.{◌≡◌, ◌*◌, ◌≤◌, ◌++◌, map, length, drop};
 ghost use Rattle.words.specs.Buffer.{Fills};
 ghost use Rattle.order.specs.Views.{view, listed};
 ghost use Rattle.sheet.specs.Sheets.{head, letters, amounts, sheet};
@@ -25,6 +25,7 @@ fn put_letters(orders: &[Order], out: &mut [u8])
     requires { length orders.now ≤ length out.old }
     ensures { out.new ≡ letters (map view orders.now) ++ drop (length orders.now) out.old }
 {
+    // by number, here and below: of what `zip` writes to a row lent as `&mut` the library tells nothing
     for (i, order) in orders.iter().enumerate() {
         out[i] = order.letter();
     }

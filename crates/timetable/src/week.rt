@@ -1,6 +1,6 @@
-ghost use Rattle.std.specs.Prelude.{◌≡◌, ℕ, ◌+◌, ◌<◌, ◌≤◌, true, false, List, replicate, MatchResult};
+ghost use Rattle.std.specs.Prelude.{◌≡◌, ℕ, ◌+◌, ◌<◌, ◌≤◌, true, false, replicate, MatchResult};
 ghost use Rattle.faults.specs.declared.grounds.TimetableFault.TheVariants.{Base, Closed};
-ghost use Rattle.timetable.specs.Hours.{bit_at, opens_at, ever_open, Next, next};
+ghost use Rattle.timetable.specs.Hours.{opens_at, ever_open, Next, next};
 
 use crate::table::{BaseHour, Timetable};
 use faults::TimetableFault;

@@ -5,9 +5,8 @@ ghost use Rattle.hash.specs.Messages.{limit};
 ghost use Rattle.trace.specs.Walk.{block};
 
 use faults::TraceFault;
+use hash::LIMIT;
 use words::read_words;
-
-const LIMIT: usize = 16_777_216;
 
 // A message within the limit, as it is padded.
 #[derive(Clone, Copy)]

@@ -1,5 +1,5 @@
 // Both messages forward, the longer ahead, and the last place where their pairs differ.
-ghost use Rattle.std.specs.Prelude.{◌≡◌, ◌-◌, ◌+◌, ◌≤◌, ◌≢◌};
+ghost use Rattle.std.specs.Prelude.{◌≡◌, ◌-◌, ◌+◌, ◌≢◌};
 ghost use Rattle.hash.specs.Digests.{block_count, digest};
 ghost use Rattle.hash.specs.Messages.{value as value_of};
 ghost use Rattle.trace.specs.Walk.{Last, Traces};
@@ -20,6 +20,7 @@ fn in_step<C: Cipher>(x: &mut Walker<C>, y: &mut Walker<C>, count: usize) -> Opt
     ensures last { Last (C.meaning x.old.chain.cipher.now) x.old.message.message.now y.old.message.message.now x.old.at y.old.at count result }
 {
     let mut last = None;
+    // no `filter` and `last`: each turn moves both walkers, which a closure's contract would have to tell
     for k in 0..count {
         let values = x.chain.words() == y.chain.words();
         let blocks = x.step() == y.step();
@@ -48,9 +49,7 @@ pub(crate) fn walk<C: Cipher>(
     if one.chain.words() != other.chain.words() {
         return Err(TraceFault::Differ);
     }
-    match last {
-        Some(k) => Ok((i + k, j + k)),
-        // unlike messages differ in length, which their last blocks hold, or in a block
-        None => unreachable(),
-    }
+    // unlike messages differ in length, which their last blocks hold, or in a block
+    let k = last.unwrap();
+    Ok((i + k, j + k))
 }

@@ -12,7 +12,8 @@ ghost use Rattle.turning.specs.Turned.{Name, turned, back};
 use cipher::{Cipher, Decrypt, Direction, Encrypt};
 use order::Order;
 
-// Turns a register under the key of each order that is given.
+// Turns a register under the key of each order that is given. Here and below cipher, name and register come apart: they
+// are parts of a book, which this crate does not know, and a struct of them would be made for each call.
 fn along<'a, D: Direction, C: Cipher, I: Iterator<Item = &'a Order> + Drop>(
     cipher: &C,
     name: &[u8; 8],

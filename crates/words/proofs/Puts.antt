@@ -1,5 +1,7 @@
 -- Bytes written one part behind the other. Assumes nothing.
-use Rattle.std.proofs.Common.{◌≡◌, ℕ, ◌+◌, ◌≤◌, List, [], ◌++◌, length, take, drop, sym, ap, ◌∙◌}
+use Rattle.std.proofs.Common.{◌≡◌, ℕ, ◌+◌, ◌≤◌, List, [], ◌++◌, length, take, drop, Ok, Err, Result, IsOk, refl, sym, ap, ◌∙◌, arith}
+use Rattle.faults.specs.declared.grounds.BufferFault.{BufferFault}
+use Rattle.words.specs.Buffer.{Fills}
 use borrow.Rule.Slice.PartMut.{put_mid}
 use Rattle.std.proofs.lemmas.List.{append_assoc, append-nil, take_at, drop_at, drop-drop, drop_all}
 
@@ -19,3 +21,8 @@ put_rest front part old out rest written a n k long is tail w all =
     let v : written ≡ part ++ drop (a + n) old = w ∙ ap (λ (x : List ℕ). part ++ drop n x) r ∙ ap (λ (x : List ℕ). part ++ x) (drop-drop n a old) in
     let none : drop k (drop a out) ≡ [] = drop-drop k a out ∙ drop_all (a + k) out all in
     (λ i. f i ++ (v i ++ none i)) ∙ ap (λ (x : List ℕ). front ++ x) (append-nil (part ++ drop (a + n) old)) ∙ sym (append_assoc front part (drop (a + n) old))
+
+-- an answer that there is room for is written
+pub written : (bs old new : List ℕ) (r : Result ℕ BufferFault) → Fills bs old new r → length bs ≤ length old → IsOk r
+written bs old new (Ok n) f h = refl
+written bs old new (Err f) e h = absurd (omega arith)

@@ -15,6 +15,7 @@ pub fn read_words(bytes: &[u8], out: &mut [u32]) -> Result<(), CipherFault>
         return Err(CipherFault::Block);
     }
     let (fours, _) = bytes.as_chunks::<4>();
+    // by number, here and below: of what `zip` writes to a row lent as `&mut` the library tells nothing
     for (i, word) in out.iter_mut().enumerate() {
         *word = u32::from_be_bytes(fours[i]);
     }

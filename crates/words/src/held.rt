@@ -1,5 +1,5 @@
 // Blocks made and read.
-ghost use Rattle.std.specs.Prelude.{◌≡◌, ◌-◌, ◌<◌, ◌≤◌, true, false, cond, ◌++◌, length, replicate, MatchOption};
+ghost use Rattle.std.specs.Prelude.{◌≡◌, ◌-◌, ◌<◌, ◌≤◌, ◌++◌, length, replicate, MatchOption};
 ghost use Rattle.words.specs.Blocks.{held};
 
 use crate::block::Block;

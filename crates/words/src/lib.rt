@@ -8,15 +8,15 @@ use faults::BufferFault;
 mod bits;
 mod block;
 mod crossing;
+mod digits;
 mod held;
-mod hex;
 mod padding;
 mod sums;
 
 pub use bits::{choose, majority};
 pub use block::Block;
 pub use crossing::{put_words, read_words};
-pub use hex::hex_digits;
+pub use digits::hex_digits;
 pub use padding::padded;
 pub use sums::add_words;
 

@@ -13,6 +13,7 @@ pub fn add_words(onto: &mut [u32], more: &[u32]) -> Result<(), CipherFault>
     if onto.len() != more.len() {
         return Err(CipherFault::Block);
     }
+    // by number: of what `zip` writes to a row lent as `&mut` the library tells nothing
     for (i, word) in onto.iter_mut().enumerate() {
         *word = word.wrapping_add(more[i]);
     }

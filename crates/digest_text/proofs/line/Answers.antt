@@ -5,7 +5,7 @@ use Rattle.words.specs.Blocks.{held}
 use Rattle.words.specs.Words.{bytes}
 use Rattle.words.proofs.Bytes.{bytes_below}
 use Rattle.digest_text.proofs.Lined.{sliced}
-use Rattle.digest_text.proofs.Hexed.{encoded}
+use Rattle.words.proofs.Hexed.{encoded}
 use Rattle.digest_text.proofs.line.Goals as goal
 
 pub returns : goal.returns

@@ -1,10 +1,13 @@
-use Rattle.std.proofs.Common.{◌≡◌, length, take, sym, refl, ap, ◌∙◌, arith, rules}
+use Rattle.std.proofs.Common.{◌≡◌, ℕ, ◌^◌, Fits, w8, length, get_or, take, sym, refl, ap, ◌∙◌, arith, rules}
 use Rattle.std.proofs.lemmas.List.{length-map}
 use Rattle.std.proofs.lemmas.Result.{err_from_is_err_and}
+use Rattle.words.proofs.Bytes.{below_from}
 use Rattle.order_table.specs.Views.{view, lines_of}
+use Rattle.turning.proofs.Turning.{name_from}
 use Rattle.ledger.proofs.Granted.{start_refused, base_refused, table_refused, begun_refused, set_up_granted}
 use Rattle.ledger.proofs.Changed.{sets_up, set_up_replies}
 use Rattle.book.specs.Told.{told}
+use Rattle.book.proofs.Kept.{put_keeps}
 use Rattle.book.proofs.Done.{refuses, grants, told_lines}
 use Rattle.book.proofs.state.Book.set_up.Goals as goal
 
@@ -35,10 +38,23 @@ returns g c =
     let b = c.args.self.now in
     let m = g.C.Cipher.meaning b.cipher in
     let wide : length c.args.start.now ≡ m.width = search rules in
-    let s : take m.width c.put_front.new.register ≡ c.args.start.now = ap (λ n. take n c.put_front.new.register) (sym wide) ∙ c.put_front.ensures in
+    let s : take m.width c.put_front.new.register ≡ c.args.start.now = ap (λ n. take n c.put_front.new.register) (sym wide) ∙ c.put_front.ensures.front in
     let long : length c.lines.result.now ≡ length (told m b).lines = sym (length-map c.lines.result.now view) ∙ ap length (c.lines.ensures.value ∙ sym (told_lines m b)) in
     let none_yet : length (told m b).lines ≡ 0 = omega (arith, long) in
     grants _ _ _ _ _ (set_up_granted m _ _ wide c.in_ok-base_hour.ensures.1 c.in_ok-week.ensures.1 none_yet) refl
     (sets_up m (record { name = c.args.name; base = c.args.base; table = c.args.timetable; start = c.args.start.now }) (told m b) _ _ _ (lines_of b.table) c.in_ok-base_hour.ensures.0 c.in_ok-week.ensures.0 s (told_lines m b) (ap length (sym (told_lines m b)) ∙ none_yet))
     (set_up_replies m _ _ _)
     (λ r. r)
+
+pub invariant_of-self : goal.invariant_of-self
+invariant_of-self g c =
+    let b = c.args.self.now in
+    let m = g.C.Cipher.meaning b.cipher in
+    let law = g.met.C.Cipher.lawful b.cipher in
+    let wide : length c.args.start.now ≡ m.width = search rules in
+    let words = below_from (2 ^ 32) c.args.start.now (λ k. (c.type_inv.start k).fits) in
+    let fits : (k : ℕ) → Fits w8 (get_or c.args.name k 0) = λ k. search rules in
+    record {
+      named = name_from c.args.name (search rules) (λ k. (fits k).fits);
+      row = put_keeps c.args.start.now b.register c.put_front.new.register (omega (arith, wide, law.most)) b.row words c.put_front.ensures.front c.put_front.ensures.rest;
+    }
