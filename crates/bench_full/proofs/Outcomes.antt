@@ -1,15 +1,13 @@
 -- What the bench finds, check by check. Assumes nothing.
-use Rattle.std.proofs.Common.{◌≡◌, ℕ, ◌*◌, ◌<◌, ◌≤◌, cond, List, [], ◌∷◌, length, get_or, take, drop, Ok, Err, Result, IsOk, refl, ap, ◌∙◌, subst, arith}
+use Rattle.std.proofs.Common.{◌≡◌, ℕ, ◌*◌, ◌<◌, ◌≤◌, cond, List, [], ◌∷◌, length, get_or, take, drop, Err, Result, refl, ap, ◌∙◌, subst, arith}
 use mathlib.Core.Option.{Option, none, some}
 use Rattle.std.proofs.lemmas.List.{length-take-le}
 use Rattle.std.proofs.lemmas.Bool.{lt-ltb, le-ltb}
-use Rattle.faults.specs.declared.grounds.BufferFault.{BufferFault}
 use Rattle.faults.specs.declared.grounds.SheetFault.{SheetFault}
 use Rattle.faults.specs.declared.grounds.BenchFault.{BenchFault}
 use Rattle.faults.specs.declared.grounds.BenchFault.TheVariants.{Mark, Cipher, Sheet}
 use Rattle.faults.specs.declared.grounds.CipherFault.TheVariants.{Key, Block}
 use Rattle.words.specs.Words.{words}
-use Rattle.words.specs.Buffer.{Fills}
 use Rattle.std.specs.List.{IsSplitAt}
 use Rattle.cipher.specs.Meaning.{Meaning}
 use Rattle.sheet.specs.Reading.{sheet_fault}

@@ -9,7 +9,10 @@ mod tests {
     use calls::{Answer, Call, replay};
     use cipher::Cipher;
     use compare::{Verdict, compare};
-    use faults::{BookFault, BufferFault, Refusal};
+    use faults::{
+        BenchFault, BookFault, BufferFault, CipherFault, OrderFault, Refusal, SheetFault,
+        TimetableFault,
+    };
     use loading::load;
     use practice::Practice;
     use shacal1::Shacal1;
@@ -28,6 +31,51 @@ mod tests {
         0x091a2b38,
     ];
 
+    const WORDS: BookFault = BookFault::Cipher(CipherFault::Block);
+
+    const BASE: BookFault = BookFault::Timetable(TimetableFault::Base(0));
+
+    const CLOSED: BookFault = BookFault::Timetable(TimetableFault::Closed(0));
+
+    const LETTER: BookFault = BookFault::Order(OrderFault::Letter(0));
+
+    const AMOUNT: BookFault = BookFault::Order(OrderFault::Amount(0));
+
+    const SHORT: BookFault = BookFault::Buffer(BufferFault::Short);
+
+    const REGISTER: BenchFault = BenchFault::Cipher(CipherFault::Block);
+
+    // A sheet of so many bytes, which are too few.
+    fn too_short(given: usize) -> BenchFault {
+        BenchFault::Sheet(SheetFault::Short(given))
+    }
+
+    // The number that is told of each.
+    const NUMBERS: [(BookFault, u8); 11] = [
+        (WORDS, 12),
+        (SHORT, 13),
+        (BASE, 14),
+        (CLOSED, 15),
+        (LETTER, 16),
+        (AMOUNT, 17),
+        (BookFault::Begun, 32),
+        (BookFault::Full, 33),
+        (BookFault::Absent, 34),
+        (BookFault::Undone, 35),
+        (BookFault::NoDelay, 36),
+    ];
+
+    #[test]
+    fn numbers(rt: HostRuntime) {
+        for (fault, number) in NUMBERS {
+            assert_eq!(rt; Refusal::from(fault).number, number);
+        }
+        assert_eq!(rt; Refusal::from(REGISTER).number, 12);
+        for given in [20, 51] {
+            assert_eq!(rt; Refusal::from(too_short(given)).number, 18);
+        }
+    }
+
     // Buffers, longer than any answer.
     const NARROW: [u8; 33] = [0x55; 33];
 
@@ -42,6 +90,7 @@ mod tests {
         Ok(book)
     }
 
+    // A call as data, so that tables hold it. It is made by the book's own methods: `calls::apply` has a test of its own.
     #[derive(Clone, Copy)]
     enum Step {
         Enter(char, u32),
@@ -97,6 +146,21 @@ mod tests {
         Ok(five)
     }
 
+    // What a question writes.
+    fn writes<F: Fn(&mut [u8]) -> Result<usize, BufferFault>>(
+        rt: &impl Abort,
+        question: F,
+        want: &[u8],
+    ) -> Result<(), Fail>
+        requires { F.IsAlwaysCallable question }
+    {
+        let mut out = WIDE;
+        let n = question(&mut out)?;
+        assert!(rt; n <= 358);
+        assert_eq!(rt; &out[..n], want);
+        Ok(())
+    }
+
     fn shows<C: Cipher>(
         rt: &impl Abort,
         book: &Book<C>,
@@ -106,33 +170,33 @@ mod tests {
         seal: &[u8],
     ) -> Result<(), Fail> {
         assert_eq!(rt; book.opening(), opening);
-        let mut out = WIDE;
-        let m = book.register(&mut out)?;
-        assert!(rt; m <= 358);
-        assert_eq!(rt; &out[..m], register);
-        let n = book.sheet(&mut out)?;
-        assert!(rt; n <= 358);
-        assert_eq!(rt; &out[..n], sheet);
-        let k = book.seal(&mut out)?;
-        assert!(rt; k <= 358);
-        assert_eq!(rt; &out[..k], seal);
+        writes(rt, |out| book.register(out), register)?;
+        writes(rt, |out| book.sheet(out), sheet)?;
+        writes(rt, |out| book.seal(out), seal)
+    }
+
+    // A call that is refused, with the five as they stood.
+    fn refuses_call<C: Cipher, T: Drop, F: FnOnce(&mut Book<C>) -> Result<T, BookFault>>(
+        rt: &impl Abort,
+        book: &mut Book<C>,
+        call: F,
+        fault: BookFault,
+    ) -> Result<(), Fail>
+        requires { F.IsAlwaysCallable call }
+    {
+        let before = shown(book)?;
+        assert_eq!(rt; call(book).err(), Some(fault));
+        assert!(rt; shown(book)? == before);
         Ok(())
     }
 
-    // A step that is refused, with the five as they stood.
     fn refuses<C: Cipher>(
         rt: &impl Abort,
         book: &mut Book<C>,
         step: Step,
-        number: u8,
+        fault: BookFault,
     ) -> Result<(), Fail> {
-        let before = shown(book)?;
-        match take_step(book, step) {
-            Ok(_) => return Err(Fail::new("granted")),
-            Err(fault) => assert_eq!(rt; Refusal::from(fault).number, number),
-        }
-        assert!(rt; shown(book)? == before);
-        Ok(())
+        refuses_call(rt, book, |book| take_step(book, step), fault)
     }
 
     fn refuses_set_up<C: Cipher>(
@@ -141,15 +205,14 @@ mod tests {
         base: u32,
         timetable: [u8; 21],
         start: &[u32],
-        number: u8,
+        fault: BookFault,
     ) -> Result<(), Fail> {
-        let before = shown(book)?;
-        match book.set_up(*b"OTHER...", base, timetable, start) {
-            Ok(()) => return Err(Fail::new("set up")),
-            Err(fault) => assert_eq!(rt; Refusal::from(fault).number, number),
-        }
-        assert!(rt; shown(book)? == before);
-        Ok(())
+        refuses_call(
+            rt,
+            book,
+            |book| book.set_up(*b"OTHER...", base, timetable, start),
+            fault,
+        )
     }
 
     const FOUR: &[u8; 57] =
@@ -238,34 +301,41 @@ mod tests {
     }
 
     // Every refusal of a book that has room, in the sequence of the checks: of grounds that hold together the first is told.
-    const REFUSED: [(Step, u8); 7] = [
-        (Step::Enter('E', 0), 16),
-        (Step::Enter('D', 0), 17),
-        (Step::Enter('D', 721), 17),
-        (Step::Enter('N', 1_000_001), 17),
-        (Step::Undo(0), 34),
-        (Step::Undo(4), 34),
-        (Step::Undo(2), 35),
+    const REFUSED: [(Step, BookFault); 7] = [
+        (Step::Enter('E', 0), LETTER),
+        (Step::Enter('D', 0), AMOUNT),
+        (Step::Enter('D', 721), AMOUNT),
+        (Step::Enter('N', 1_000_001), AMOUNT),
+        (Step::Undo(0), BookFault::Absent),
+        (Step::Undo(4), BookFault::Absent),
+        (Step::Undo(2), BookFault::Undone),
     ];
 
     fn steps_refused<C: Cipher>(rt: &impl Abort, book: &mut Book<C>) -> Result<(), Fail> {
-        for (step, number) in REFUSED {
-            refuses(rt, book, step, number)?;
+        for (step, fault) in REFUSED {
+            refuses(rt, book, step, fault)?;
         }
         // with no delay in force
         assert_eq!(rt; take_step(book, Step::Relieve), Ok((Some(1), 32)));
         assert_eq!(rt; take_step(book, Step::Relieve), Ok((Some(3), 8)));
         assert_eq!(rt; take_step(book, Step::Enter('N', 120)), Ok((Some(4), 176)));
-        refuses(rt, book, Step::Relieve, 36)
+        refuses(rt, book, Step::Relieve, BookFault::NoDelay)
     }
 
     fn set_ups_refused<C: Cipher>(rt: &impl Abort, book: &mut Book<C>) -> Result<(), Fail> {
         let width = book.cipher().width();
         assert!(rt; width >= 1 && width <= 8);
-        refuses_set_up(rt, book, 1_000_001, [0; 21], &START[..width - 1], 12)?;
-        refuses_set_up(rt, book, 1_000_001, [0; 21], &START[..width], 14)?;
-        refuses_set_up(rt, book, 1_000_000, [0; 21], &START[..width], 15)?;
-        refuses_set_up(rt, book, 1_000_000, OFFICE, &START[..width], 32)
+        refuses_set_up(rt, book, 1_000_001, [0; 21], &START[..width - 1], WORDS)?;
+        refuses_set_up(rt, book, 1_000_001, [0; 21], &START[..width], BASE)?;
+        refuses_set_up(rt, book, 1_000_000, [0; 21], &START[..width], CLOSED)?;
+        refuses_set_up(
+            rt,
+            book,
+            1_000_000,
+            OFFICE,
+            &START[..width],
+            BookFault::Begun,
+        )
     }
 
     // A buffer that is a byte too short is left as it was, and one that is just long enough is filled.
@@ -319,24 +389,20 @@ mod tests {
             Ok((Some(64), 3104))
         );
         assert_eq!(rt; book.code(), 526457);
-        let mut register = NARROW;
-        let m = book.register(&mut register)?;
-        assert!(rt; m <= 33);
-        assert_eq!(rt;
-            &register[..m],
-            b"\x02\xc2\x1d\x2b\x1f\xed\x6d\x34\x1f\x83\x90\xa8\x24\xf6\x4f\xa8\x8e\x0c\x76\xa8\xf7\xa5\x7e\xcd\xee\x1f\x30\x2b\xa4\x9c\xaa\xa3".as_slice()
-        );
-        let mut seal = NARROW;
-        let n = book.seal(&mut seal)?;
-        assert!(rt; n <= 33);
-        assert_eq!(rt;
-            &seal[..n],
-            b"\x45\x57\x83\x14\xc9\xea\xeb\xda\x02\x0d\x74\x31\xe1\x31\x29\xc5\x6a\x9c\x51\x0e\xad\x36\x74\x1b\xc8\x6b\x25\x36\x18\x5d\xac\xcc".as_slice()
-        );
-        refuses(&rt, &mut book, Step::Enter('D', 1), 33)?;
-        refuses(&rt, &mut book, Step::Enter('D', 721), 17)?;
+        writes(
+            &rt,
+            |out| book.register(out),
+            b"\x02\xc2\x1d\x2b\x1f\xed\x6d\x34\x1f\x83\x90\xa8\x24\xf6\x4f\xa8\x8e\x0c\x76\xa8\xf7\xa5\x7e\xcd\xee\x1f\x30\x2b\xa4\x9c\xaa\xa3",
+        )?;
+        writes(
+            &rt,
+            |out| book.seal(out),
+            b"\x45\x57\x83\x14\xc9\xea\xeb\xda\x02\x0d\x74\x31\xe1\x31\x29\xc5\x6a\x9c\x51\x0e\xad\x36\x74\x1b\xc8\x6b\x25\x36\x18\x5d\xac\xcc",
+        )?;
+        refuses(&rt, &mut book, Step::Enter('D', 1), BookFault::Full)?;
+        refuses(&rt, &mut book, Step::Enter('D', 721), AMOUNT)?;
         book.undo(64)?;
-        refuses(&rt, &mut book, Step::Enter('D', 1), 33)
+        refuses(&rt, &mut book, Step::Enter('D', 1), BookFault::Full)
     }
 
     // Before the first order the last set-up counts, whole; after it none is granted, even where that order was undone.
@@ -349,10 +415,10 @@ mod tests {
         assert!(rt; shown(&book)? == shown(&ready(&rt, Shacal1)?)?);
         assert_eq!(rt; book.code(), 247820);
         book.enter('D', 100)?;
-        refuses_set_up(&rt, &mut book, 8, OFFICE, &START[..5], 32)?;
+        refuses_set_up(&rt, &mut book, 8, OFFICE, &START[..5], BookFault::Begun)?;
         book.undo(1)?;
         assert_eq!(rt; book.code(), 247820);
-        refuses_set_up(&rt, &mut book, 8, OFFICE, &START[3..], 32)
+        refuses_set_up(&rt, &mut book, 8, OFFICE, &START[3..], BookFault::Begun)
     }
 
     // The same orders in force by different ways; then one undone and entered again, so that the sequence alone differs.
@@ -420,40 +486,48 @@ mod tests {
         Ok(())
     }
 
-    // An order's number or how many bytes, then an hour or the code; or the number of a refusal.
-    fn plain(answer: Result<Answer, BookFault>) -> Result<(usize, u32), u8> {
+    // An answer, with the count of its bytes in place of the bytes.
+    #[derive(Clone, Copy, PartialEq, Debug)]
+    enum Plain {
+        Done,
+        Number(usize, u32),
+        Hour(u32),
+        Code(u32),
+        Count(usize),
+    }
+
+    fn counted(answer: Answer) -> Plain {
         match answer {
-            Ok(Answer::Done) => Ok((0, 0)),
-            Ok(Answer::Number(number, hour)) => Ok((number, hour)),
-            Ok(Answer::Hour(hour)) => Ok((0, hour)),
-            Ok(Answer::Code(code)) => Ok((0, code)),
-            Ok(Answer::Bytes(bytes)) => Ok((bytes.as_slice().len(), 0)),
-            Err(fault) => Err(Refusal::from(fault).number),
+            Answer::Done => Plain::Done,
+            Answer::Number(number, hour) => Plain::Number(number, hour),
+            Answer::Hour(hour) => Plain::Hour(hour),
+            Answer::Code(code) => Plain::Code(code),
+            Answer::Bytes(bytes) => Plain::Count(bytes.as_slice().len()),
         }
     }
 
-    const ANSWERS: [Result<(usize, u32), u8>; 14] = [
-        Err(17),
-        Ok((0, 0)),
-        Ok((1, 108)),
-        Ok((2, 176)),
-        Ok((3, 200)),
-        Ok((4, 344)),
-        Ok((5, 344)),
-        Ok((0, 276)),
-        Err(35),
-        Ok((0, 501488)),
-        Ok((4, 176)),
-        Err(13),
-        Ok((52, 0)),
-        Ok((20, 0)),
+    const ANSWERS: [Result<Plain, BookFault>; 14] = [
+        Err(AMOUNT),
+        Ok(Plain::Done),
+        Ok(Plain::Number(1, 108)),
+        Ok(Plain::Number(2, 176)),
+        Ok(Plain::Number(3, 200)),
+        Ok(Plain::Number(4, 344)),
+        Ok(Plain::Number(5, 344)),
+        Ok(Plain::Hour(276)),
+        Err(BookFault::Undone),
+        Ok(Plain::Code(501488)),
+        Ok(Plain::Number(4, 176)),
+        Err(SHORT),
+        Ok(Plain::Count(52)),
+        Ok(Plain::Count(20)),
     ];
 
     fn check_replay(rt: &impl Abort, heap: Global, calls: &[Call<'_>]) -> Result<(), Fail> {
         let (book, answers) = replay(Shacal1, heap, calls)?;
         assert_eq!(rt; answers.len(), 14);
         for (answer, want) in answers.iter().zip(&ANSWERS) {
-            assert_eq!(rt; plain(*answer), *want);
+            assert_eq!(rt; answer.map(counted), *want);
         }
         assert_eq!(rt; book.opening(), 176);
         assert_eq!(rt; book.code(), 765852);
@@ -484,12 +558,8 @@ mod tests {
     const START_BYTES: &[u8; 20] =
         b"\x01\x23\x45\x67\x02\x46\x8a\xce\x03\x69\xd0\x35\x04\x8d\x15\x9c\x05\xb0\x5b\x03";
 
-    // The number of the refusal, if there is one.
-    fn load_refusal(register: &[u8], sheet: &[u8]) -> Option<u8> {
-        match load(Shacal1, register, sheet) {
-            Ok(_) => None,
-            Err(fault) => Some(Refusal::from(fault).number),
-        }
+    fn load_refused(rt: &impl Abort, register: &[u8], sheet: &[u8], fault: BenchFault) {
+        assert_eq!(rt; load(Shacal1, register, sheet).err(), Some(fault));
     }
 
     // The sheet at the end of the runs, and its first ground of refusal.
@@ -498,13 +568,10 @@ mod tests {
         let book = load(Shacal1, START_BYTES, THREE)?;
         assert_eq!(rt; book.opening(), 848);
         assert_eq!(rt; book.code(), 920480);
-        let mut sheet = WIDE;
-        let n = book.sheet(&mut sheet)?;
-        assert!(rt; n <= 358);
-        assert_eq!(rt; &sheet[..n], THREE.as_slice());
-        assert_eq!(rt; load_refusal(&START_BYTES[..19], &THREE[..51]), Some(12));
-        assert_eq!(rt; load_refusal(START_BYTES, &THREE[..51]), Some(18));
-        assert_eq!(rt; load_refusal(START_BYTES, START_BYTES), Some(18));
+        writes(&rt, |out| book.sheet(out), THREE)?;
+        load_refused(&rt, &START_BYTES[..19], &THREE[..51], REGISTER);
+        load_refused(&rt, START_BYTES, &THREE[..51], too_short(51));
+        load_refused(&rt, START_BYTES, START_BYTES, too_short(20));
         Ok(())
     }
 }

@@ -1,9 +1,8 @@
 -- The two statements on two books. Assumes nothing.
-use Rattle.std.proofs.Common.{◌≡◌, ℕ, ◌%◌, ◌^◌, ◌<◌, Bool, true, false, List, [], ◌∷◌, length, get_or, Decides, MatchBool, sym, refl, ap, ◌∙◌, subst, arith}
+use Rattle.std.proofs.Common.{◌≡◌, ℕ, ◌%◌, ◌^◌, Bool, true, false, List, [], ◌∷◌, get_or, Decides, MatchBool, sym, refl, ap, ◌∙◌, subst, arith}
 use Rattle.std.proofs.lemmas.Bool.{false≢true}
 use Rattle.words.specs.Words.{Below, Row, bytes, words}
 use Rattle.words.proofs.Bytes.{bytes_below, word_joined}
-use Rattle.words.proofs.Crossed.{length_bytes}
 use Rattle.cipher.specs.Meaning.{Meaning, Lawful}
 use Rattle.hash.specs.Digests.{digest}
 use Rattle.hash.proofs.Rows.{digest_row}
@@ -15,7 +14,6 @@ use Rattle.sheet.specs.Contents.{Contents}
 use Rattle.sheet.specs.Reading as reading
 use Rattle.sheet.proofs.Written.{accepted, holds}
 use Rattle.ledger.specs.Ledgers.{Ledger, Sound, in_force, register, code, opening, sheet, seal}
-use Rattle.ledger.proofs.Answering.{sheet_most}
 use Rattle.compare.specs.Alike.{NothingLeftBehind, SharedSealCollides}
 use Rattle.compare.specs.Verdicts.{collision, Judges, Compares}
 use Rattle.compare.specs.declared.verdict.Verdict.{Verdict}

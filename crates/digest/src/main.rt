@@ -35,6 +35,7 @@ fn feed<C: Cipher, R: Read>(
     }
 }
 
+// The message is finished whether or not all could be read.
 fn hashed<C: Cipher, R: Read>(cipher: &C, from: &mut R, piece: &mut [u8]) -> anyhow::Result<Block> {
     let mut message = Message::new(cipher);
     let fed = feed(&mut message, from, piece);

@@ -54,6 +54,7 @@ mod tests {
         Ok(())
     }
 
+    // A million letters a, of a message that is begun, added to and finished here.
     #[test]
     fn million(rt: HostRuntime) -> Result<(), Fail> {
         let mut message = Message::new(&Shacal1);

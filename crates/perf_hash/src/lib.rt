@@ -3,7 +3,6 @@
 #![tactic(auto)]
 
 ghost use Rattle.std.specs.Prelude.{◌≡◌, ◌≤◌, true, false, take, MatchResult};
-ghost use Rattle.words.specs.Blocks.{held};
 ghost use Rattle.sha.specs.Sha.{sha1 as sha1_of, sha256 as sha256_of};
 ghost use Rattle.perf_hash.specs.Exports.{Leaves};
 

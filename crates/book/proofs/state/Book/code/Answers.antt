@@ -1,6 +1,5 @@
-use Rattle.std.proofs.Common.{◌%◌, ◌≤◌, length, get_or, replicate, ap, refl, ◌∙◌, arith}
+use Rattle.std.proofs.Common.{◌%◌, get_or, ap, refl, ◌∙◌, arith}
 use Rattle.words.specs.Words.{bytes}
-use Rattle.words.proofs.Crossed.{length_bytes}
 use Rattle.ledger.proofs.Rooms.{words_room}
 use Rattle.hash.specs.Digests.{digest}
 use Rattle.ledger.specs.Ledgers.{register}

@@ -1,10 +1,9 @@
-use Rattle.std.proofs.Common.{◌≡◌, ℕ, List, length, take, replicate, sym, ap, ◌∙◌, subst}
+use Rattle.std.proofs.Common.{◌≡◌, ℕ, List, length, take, sym, ap, ◌∙◌, subst}
 use Rattle.words.specs.Words.{bytes}
 use Rattle.words.specs.Buffer.{Fills}
 use Rattle.ledger.proofs.Rooms.{sheet_room}
 use Rattle.hash.specs.Digests.{digest}
 use Rattle.ledger.specs.Ledgers.{sheet, seal}
-use Rattle.ledger.proofs.Answering.{sheet_most}
 use Rattle.book.specs.Told.{told}
 use Rattle.book.proofs.Asked.{front_is, block_words}
 use Rattle.book.proofs.state.Book.seal.Goals as goal
