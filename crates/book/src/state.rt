@@ -6,7 +6,7 @@ use order_table::Table;
 use timetable::{BaseHour, Timetable};
 
 // A plain struct of cipher, name, base hour, timetable, present register and order table, which is the form that is asked
-// of a book.
+// of a book. No `impl Model` as its ledger: a refusal leaves the book itself as it was, and not its ledger alone.
 #[derive(Drop)]
 pub struct Book<C> {
     pub(crate) cipher: C,

@@ -1,4 +1,5 @@
-// A fault of a lower layer passes through an upper one whole, by `?`.
+// A fault of a lower layer passes through an upper one whole, by `?`. By hand: the `From` that the kit's `thiserror`
+// derives has no contract, and callers' contracts tell which fault came through.
 ghost use Rattle.std.specs.Prelude.{◌≡◌};
 ghost use Rattle.faults.specs.declared.grounds.SheetFault.TheVariants.{Timetable as InTimetable, Order as InOrder};
 ghost use Rattle.faults.specs.declared.grounds.BenchFault.TheVariants.{Cipher as InCipher, Sheet as InSheet};

@@ -12,7 +12,8 @@ use words::Block;
 // How many bytes a message takes.
 pub const LIMIT: usize = 16_777_216;
 
-// A message that bytes are added to. It is not `Drop`: what was begun is finished.
+// A message that bytes are added to. It is not `Drop`: what was begun is finished. No `impl Model` as these bytes: it does
+// not keep them, and stands for them by a relation.
 pub struct Message<'a, C> {
     pub(crate) chain: Chain<'a, C>,
     pub(crate) tail: [u8; 64],
