@@ -7,7 +7,8 @@ use crate::findings::Findings;
 use bench_io::Line;
 use words::hex_digits;
 
-// Puts a part that fits behind a line, which by itself refuses one that does not.
+// Puts a part that fits behind a line, which by itself refuses one that does not. `Line` has the same for its own use: a
+// public call of it would have to require that the part fits.
 fn put(line: &mut Line, part: &[u8])
     requires { length line.old + length part.now ≤ 128 }
     ensures { line.new ≡ line.old ++ part.now }
@@ -29,7 +30,7 @@ fn push_figures(line: &mut Line, figures: usize, n: u32)
     put(line, &[b'0' + (n % 10) as u8]);
 }
 
-// The same of bytes in hexadecimal digits.
+// The same of bytes in hexadecimal digits, byte by byte: the kit's `hex` writes to a room, which a line does not show.
 fn push_hex(line: &mut Line, bytes: &[u8])
     requires { length line.old + 2 * length bytes.now ≤ 128 }
     ensures after { line.new ≡ line.old ++ hex bytes.now }

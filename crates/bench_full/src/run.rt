@@ -18,6 +18,7 @@ use shacal2::Shacal2;
 fn ask<C: Cipher>(book: &Book<C>) -> Findings
     ensures { Shows (C.meaning book.now.cipher) (told (C.meaning book.now.cipher) book.now) result }
 {
+    // fixed memory, of which the seal's bytes count
     let mut room = [0u8; 32];
     let count = book.seal(&mut room).unwrap();
     let mut seal = ArrayVec::new();
@@ -39,7 +40,8 @@ fn answer_over<C: Cipher + Drop>(cipher: C, rest: &[u8]) -> Result<Findings, Ben
     Ok(ask(&book))
 }
 
-// What the bench finds in an input, or its first fault.
+// What the bench finds in an input, or its first fault. The mark is told as in `bench_run`, in two lines: a call for both
+// would hand out a mark and a rest, to be taken apart again.
 fn answer(input: &[u8]) -> Result<Findings, BenchFault>
     ensures { outcome input.now ≡ found result }
 {

@@ -37,8 +37,8 @@ impl<C: Cipher> Book<C> {
         }
     }
 
-    // Sets the book up, as long as it has no line. The four come apart, as they are handed over: a struct of them would be
-    // made for this call and taken apart in it.
+    // Sets the book up, as long as it has no line. The four come apart, as they are handed over: each is checked and kept by
+    // itself, so that a struct of them would be taken apart at once.
     pub fn set_up(
         &mut self,
         name: [u8; 8],
@@ -49,7 +49,7 @@ impl<C: Cipher> Book<C> {
         ensures { Does C.meaning (set_up (record { name = name; base = base; table = timetable; start = start.now })) self.old self.new (set result) }
     {
         if start.len() != self.cipher.width() {
-            return Err(BookFault::Cipher(CipherFault::Block));
+            return Err(CipherFault::Block.into());
         }
         let base_hour = BaseHour::new(base)?;
         let week = Timetable::new(timetable)?;
@@ -63,7 +63,7 @@ impl<C: Cipher> Book<C> {
         Ok(())
     }
 
-    // Enters an order, and answers its number and the new opening hour.
+    // Enters an order, and answers its number and the new opening hour. Letter and amount come as in `Order::new`.
     pub fn enter(&mut self, letter: char, amount: u32) -> Result<(usize, u32), BookFault>
         ensures { Does C.meaning (enter letter amount) self.old self.new (entered result) }
     {
@@ -101,9 +101,7 @@ impl<C: Cipher> Book<C> {
         ensures does { Does C.meaning relieve self.old self.new (entered result) }
         ensures picks { Relieves (told (C.meaning self.old.cipher) self.old).lines result }
     {
-        let Some(number) = self.table.longest() else {
-            return Err(BookFault::NoDelay);
-        };
+        let number = self.table.longest().ok_or(BookFault::NoDelay)?;
         let hour = self.undo(number)?;
         Ok((number, hour))
     }

@@ -13,7 +13,7 @@ pub struct Book<C> {
     pub(crate) name: [u8; 8],
     pub(crate) base: BaseHour,
     pub(crate) timetable: Timetable,
-    // the front is as wide as the cipher
+    // there is no heap: eight words, of which as many count as the cipher has
     pub(crate) register: [u32; 8],
     pub(crate) table: Table,
     ghost named: { Name name } by { name_prop name },

@@ -496,13 +496,15 @@ mod tests {
         Count(usize),
     }
 
-    fn counted(answer: Answer) -> Plain {
-        match answer {
-            Answer::Done => Plain::Done,
-            Answer::Number(number, hour) => Plain::Number(number, hour),
-            Answer::Hour(hour) => Plain::Hour(hour),
-            Answer::Code(code) => Plain::Code(code),
-            Answer::Bytes(bytes) => Plain::Count(bytes.as_slice().len()),
+    impl From<Answer> for Plain {
+        fn from(answer: Answer) -> Plain {
+            match answer {
+                Answer::Done => Plain::Done,
+                Answer::Number(number, hour) => Plain::Number(number, hour),
+                Answer::Hour(hour) => Plain::Hour(hour),
+                Answer::Code(code) => Plain::Code(code),
+                Answer::Bytes(bytes) => Plain::Count(bytes.as_slice().len()),
+            }
         }
     }
 
@@ -527,7 +529,7 @@ mod tests {
         let (book, answers) = replay(Shacal1, heap, calls)?;
         assert_eq!(rt; answers.len(), 14);
         for (answer, want) in answers.iter().zip(&ANSWERS) {
-            assert_eq!(rt; answer.map(counted), *want);
+            assert_eq!(rt; answer.map(Plain::from), *want);
         }
         assert_eq!(rt; book.opening(), 176);
         assert_eq!(rt; book.code(), 765852);

@@ -29,6 +29,7 @@ fn open_bytes<C: Cipher>(
     ensures { result ≡ opened_of (C.meaning cipher.now).width key.now block.now }
 {
     let key_words = read_key(key)?;
+    // there is no heap: room for the widest block, of which the cipher's words count
     let mut words = [0; 8];
     read_words(block, &mut words[..cipher.width()])?;
     Ok((key_words, words))
@@ -50,7 +51,8 @@ fn turn_bytes<D: Direction, C: Cipher>(
     answer
 }
 
-// Encrypts a block of four bytes a word in place, under a key of 16 to 64 bytes. A refused block stays as it was.
+// Encrypts a block of four bytes a word in place, under a key of 16 to 64 bytes. A refused block stays as it was. This and
+// the next are the names of `turn_bytes` for callers, who read them more easily than a type for the direction.
 pub fn encrypt_bytes<C: Cipher>(cipher: &C, key: &[u8], block: &mut [u8]) -> Result<(), CipherFault>
     ensures answer { result ≡ byte_told (C.meaning cipher.now).width key.now block.old }
     ensures block { block.new ≡ byte_turned (C.meaning cipher.now).width (C.meaning cipher.now).enc key.now block.old }

@@ -35,7 +35,7 @@ fn feed<C: Cipher, R: Read>(
     }
 }
 
-// The message is finished whether or not all could be read.
+// The message is finished whether or not all could be read. That `hash::digest_of` has the same shape has its reason there.
 fn hashed<C: Cipher, R: Read>(cipher: &C, from: &mut R, piece: &mut [u8]) -> anyhow::Result<Block> {
     let mut message = Message::new(cipher);
     let fed = feed(&mut message, from, piece);

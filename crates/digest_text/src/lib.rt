@@ -19,7 +19,7 @@ pub fn line(heap: Global, digest: &Block) -> Result<String, AllocError>
 {
     let words = digest.eight();
     let n = digest.count();
-    // room for the longest digest, of which this one's bytes count: a `Vec` would want memory before the text does
+    // room for the longest digest, of which this one's bytes count. A `Vec` is no plainer: it could want memory too
     let mut bytes = [0u8; 32];
     let _ = put_words(&words[0..n], &mut bytes);
     let mut text = hex::encode(heap, &bytes[0..4 * n])?;

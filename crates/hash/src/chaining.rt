@@ -8,8 +8,9 @@ use crate::step::forward;
 use cipher::Cipher;
 use words::read_words;
 
-// A chaining value of a cipher: of the eight places those count that the cipher has words. That the cipher stays is said
-// by each call, here and of a message: no type says that a reference in a `&mut` is not set to another.
+// A chaining value of a cipher. There is no heap: eight places, of which as many count as the cipher has words. That the
+// cipher stays is said by each call, here and of a message: no type says that a reference in a `&mut` is not set to
+// another. So there is no `impl Model` as the words either, which would hide the cipher.
 #[derive(Drop)]
 pub struct Chain<'a, C> {
     cipher: &'a C,

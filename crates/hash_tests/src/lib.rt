@@ -54,7 +54,7 @@ mod tests {
         Ok(())
     }
 
-    // A million letters a, of a message that is begun, added to and finished here.
+    // A million letters a, of a message that is begun, added to and finished here, as `hash::digest_of` does it.
     #[test]
     fn million(rt: HostRuntime) -> Result<(), Fail> {
         let mut message = Message::new(&Shacal1);

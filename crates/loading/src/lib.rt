@@ -57,8 +57,8 @@ fn load_into<C: Cipher + Drop>(
     Ok(open(cipher, start, &reader))
 }
 
-// A book of a start register and a sheet, both in bytes and each from a place of its own. A register of another size than
-// the cipher's is refused, then a sheet on its first fault.
+// A book of a start register and a sheet, both in bytes. A register of another size than the cipher's is refused, then a
+// sheet on its first fault. The two come apart, since they are read by two crates: a struct would be taken apart at once.
 pub fn load<C: Cipher + Drop>(
     cipher: C,
     register: &[u8],

@@ -31,8 +31,8 @@ pub struct Order {
 }
 
 // At most 64 orders, in sequence. An array with a count, since there is no heap here, and the kit's vector of fixed
-// room (`arrayvec`) is not `Copy`, which these are, and wants a default order. One type of ours for these, for the order
-// table and for what a question wrote would share `as_slice` alone: the three are made and filled in three ways.
+// room (`arrayvec`) is not `Copy`, which these are, and wants a default order. No type of ours for these and for the order
+// table, which is to be a plain struct of its own; what a question wrote is filled otherwise, by the question.
 #[derive(Clone, Copy)]
 pub struct Orders {
     pub(crate) lines: [Order; 64],

@@ -41,9 +41,6 @@ unfolding orders
 orders_in_range [] f = tt
 orders_in_range (l ∷ ls) f = elim l.undone as (λ b. AllInRange (cond b (orders ls) (l.order ∷ orders ls))) [ true ↦ orders_in_range ls f.1 | false ↦ (f.0, orders_in_range ls f.1) ]
 
-pub length_lines : (ls xs : List code.Line) (count : ℕ) → map view ls ≡ map view (take count xs) → count ≤ length xs → length ls ≡ count
-length_lines ls xs count e h = sym (length-map ls view) ∙ ap length e ∙ length-map (take count xs) view ∙ length-take-le count xs h
-
 -- ---- a line by its number
 
 line_is : (ls : List code.Line) (i : ℕ) (d : code.Line) → i < length ls → line (map view ls) (suc i) ≡ some (view (get_or ls i d))

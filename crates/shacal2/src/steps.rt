@@ -31,6 +31,8 @@ fn big1(x: u32) -> u32
     x.rotate_right(6) ^ x.rotate_right(11) ^ x.rotate_right(25)
 }
 
+// A constant and a word of the schedule come apart, here and below as two rows: the constants are one table, and the words
+// are made as they are wanted.
 impl State {
     // One step with the constant k and the word w of the schedule.
     fn turn(self, k: u32, w: u32) -> State

@@ -48,8 +48,7 @@ impl<'a> SizedBytes<'a> {
         requires { at + 4 ≤ length self.now.bytes.now }
         ensures { result ≡ word_of self.now.bytes.now at }
     {
-        let bytes = self.bytes;
-        u32::from_be_bytes([bytes[at], bytes[at + 1], bytes[at + 2], bytes[at + 3]])
+        u32::from_be_bytes(*self.bytes[at..at + 4].as_array().unwrap())
     }
 
     pub(crate) fn base_hour(&self) -> u32

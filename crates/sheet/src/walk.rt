@@ -8,7 +8,8 @@ ghost use Rattle.sheet.specs.Rest.{rest};
 use crate::reading::Reader;
 use order::Order;
 
-// The orders of a sheet that are still to come.
+// The orders of a sheet that are still to come, by the number of the next. A type of its own, and no chain over the numbers:
+// no `impl Iterator` can be handed out.
 #[derive(Clone, Copy)]
 pub struct SheetOrders<'a> {
     reader: Reader<'a>,

@@ -88,11 +88,6 @@ within_weeks table t u ever e h =
       | inr (inr l) ↦ omega arith
     ]
 
--- the bit that is read for an hour
-pub opens_bit : (table : List ℕ) (h w : ℕ) → h % 168 ≡ w → opens_at table h ≡ bit_at table w
-unfolding opens_at
-opens_bit table h w e = ap (bit_at table) e
-
 -- the n hours from t on are shut
 abbrev pub Shut : List ℕ → ℕ → ℕ → Type 0
 Shut table t n = (k : ℕ) → k < n → opens_at table (t + k) ≡ false

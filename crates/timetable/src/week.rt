@@ -23,8 +23,8 @@ fn any_open(bytes: &[u8; 21]) -> bool
 }
 
 impl BaseHour {
-    // A base hour, or a refusal where it is over 1,000,000. A constructor and no `TryFrom`, beside one that takes a
-    // place.
+    // A base hour, or a refusal where it is over 1,000,000. No `TryFrom`, here and for a timetable: it takes no place, and
+    // of the two one would then be `try_from` and the other `at`.
     pub fn new(hour: u32) -> Result<BaseHour, TimetableFault>
         ensures { MatchResult result (λ b. (b.hour ≡ hour) × (hour ≤ 1000000)) (λ f. (f ≡ Base 0) × (1000000 < hour)) }
     {
@@ -50,7 +50,7 @@ impl BaseHour {
 }
 
 impl Timetable {
-    // A timetable, or a refusal where no hour is open. A constructor and no `TryFrom`, as above.
+    // A timetable, or a refusal where no hour is open.
     pub fn new(bytes: [u8; 21]) -> Result<Timetable, TimetableFault>
         ensures { MatchResult result (λ t. (t.bytes ≡ bytes) × (ever_open bytes ≡ true)) (λ f. (f ≡ Closed 0) × (ever_open bytes ≡ false)) }
     {

@@ -1,6 +1,8 @@
 -- The bytes and words of a padded message, by place. Assumes nothing.
-use Rattle.std.proofs.Common.{◌≡◌, ℕ, suc, ◌+◌, ◌-◌, ◌*◌, ◌/◌, ◌%◌, ◌^◌, ◌<◌, ◌≤◌, cond, eqb, List, [], ◌∷◌, ◌++◌, length, get_or, take, drop, replicate, sym, refl, ap, ◌∙◌, append_assoc, arith, length-append, length-drop, take-append-drop, length-take}
+use Rattle.std.proofs.Common.{◌≡◌, ℕ, zero, suc, ◌+◌, ◌-◌, ◌*◌, ◌/◌, ◌%◌, ◌^◌, ◌<◌, ◌≤◌, cond, eqb, List, [], ◌∷◌, ◌++◌, length, get_or, take, drop, replicate, sym, refl, ap, ◌∙◌, subst, append_assoc, arith, length-append, length-drop, take-append-drop, length-take}
 use lib.ListN.{length-replicate}
+use denote.Param.Members.{Mut, Called}
+use Rattle.std.specs.Array.{IsFromFnResultFrom}
 use Rattle.std.proofs.lemmas.Bool.{cond-true, eq-eqb}
 use Rattle.std.proofs.lemmas.List.{get_or_append_left, get_or-append_right, get_or_at, get_or-replicate, get_or-take, get_or-drop, ext_get_or, take_at, drop_at, take-append-le, drop-append-le, replicate-append-replicate}
 use Rattle.words.specs.Words.{word_bytes, words}
@@ -78,6 +80,15 @@ part_read r P o l h f =
     let t : length (take 64 (drop o P)) ≡ 64 = simp (length-take, length-drop) (omega arith) in
     ext_get_or 0 r (take 64 (drop o P)) (l ∙ sym t)
     (λ q k. f q (omega arith) ∙ sym (get_or-take 64 (drop o P) q 0 (omega arith) ∙ get_or-drop o P q 0))
+
+-- what calls at the numbers from i on made, each of its number
+module _ {F : Type 0} (g : Mut F (ℕ × Unit {0}) ℕ) (J : F → Type 0) (h : ℕ → ℕ) (call : (i y : ℕ) (p q : F) → J p → Called g p (i, tt) y q → J q × (y ≡ h i)) where
+  pub made : (f : F) (ys : List ℕ) (i n k : ℕ) → J f → IsFromFnResultFrom g f ys i n → k < n → get_or ys (i + k) 0 ≡ h (i + k)
+  made f ys i zero k held r b = absurd (omega arith)
+  made f ys i (suc n) zero held (q, y, at, is, rest) b = let s : i + 0 ≡ i = omega arith in ap (λ z. get_or ys z 0) s ∙ at.1 0 ∙ (call i y f q held is).1 ∙ ap h (sym s)
+  made f ys i (suc n) (suc k) held (q, y, at, is, rest) b =
+      let s : i + 1 + k ≡ i + suc k = omega arith in
+      subst (λ z. get_or ys z 0 ≡ h z) s (made q ys (i + 1) n k (call i y f q held is).0 rest (omega arith))
 
 -- block i of whole blocks
 words_cut : (P : List ℕ) (n i : ℕ) → length P ≡ 64 * n → i < n → words (take 64 (drop (64 * i) P)) ≡ get_or (cut n (words P)) i []

@@ -6,6 +6,7 @@ ghost use Rattle.trace.specs.Walk.{block};
 
 use faults::TraceFault;
 use hash::LIMIT;
+use std::array::from_fn;
 use words::read_words;
 
 // A message within the limit, as it is padded.
@@ -60,11 +61,7 @@ impl<'a> Padded<'a> {
         requires { i < block_count self.now.message.now }
         ensures { result ≡ take 64 (drop (64 * i) (padded self.now.message.now)) }
     {
-        let mut bytes = [0; 64];
-        for (k, byte) in bytes.iter_mut().enumerate() {
-            *byte = self.byte(64 * i + k);
-        }
-        bytes
+        from_fn(|k| self.byte(64 * i + k))
     }
 
     // The words of block i. A block that the message fills comes straight from it.

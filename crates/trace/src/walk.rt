@@ -1,5 +1,5 @@
 // Both messages forward, the longer ahead, and the last place where their pairs differ.
-ghost use Rattle.std.specs.Prelude.{◌≡◌, ◌-◌, ◌+◌, ◌≢◌};
+ghost use Rattle.std.specs.Prelude.{◌≡◌, ◌+◌, ◌≢◌};
 ghost use Rattle.hash.specs.Digests.{block_count, digest};
 ghost use Rattle.hash.specs.Messages.{value as value_of};
 ghost use Rattle.trace.specs.Walk.{Last, Traces};

@@ -8,7 +8,8 @@ use crate::padding::Padded;
 use cipher::Cipher;
 use hash::Chain;
 
-// Before block `at` the chaining value is that over the blocks in front of it.
+// Before block `at` the chaining value is that over the blocks in front of it. Cipher and message stay, as each call says,
+// for the reason that stands at `hash::Chain`.
 #[derive(Drop)]
 pub(crate) struct Walker<'a, C: Cipher> {
     pub(crate) chain: Chain<'a, C>,

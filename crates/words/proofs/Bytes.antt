@@ -94,11 +94,6 @@ words_inj_fours (more a b c d f) (more a' b' c' d' f') h k e =
 pub words_inj : (p q : ℕ) (xs ys : List ℕ) → length xs ≡ 4 * p → length ys ≡ 4 * q → Below (2 ^ 8) xs → Below (2 ^ 8) ys → words xs ≡ words ys → xs ≡ ys
 words_inj p q xs ys d e = words_inj_fours (fours p xs d) (fours q ys e)
 
--- a word of its bytes
-pub word_bytes_inj : (v w : ℕ) → v < 2 ^ 32 → w < 2 ^ 32 → word_bytes v ≡ word_bytes w → v ≡ w
-word_bytes_inj v w h k e =
-    sym (word_joined v h) ∙ head-eq_of_cons-eq (ap words e) ∙ word_joined w k
-
 -- lists of which the fronts are as long
 pub append_split {ℓ} : {A : Type ℓ} (a b c d : List A) → length a ≡ length b → a ++ c ≡ b ++ d → (a ≡ b) × (c ≡ d)
 append_split [] [] c d l e = (refl, e)

@@ -12,7 +12,7 @@ use Rattle.book.proofs.Done.{refuses, grants, told_lines}
 use Rattle.book.proofs.state.Book.set_up.Goals as goal
 
 pub returns-then-start-width : goal.returns-then-start-width
-returns-then-start-width g c = refuses _ _ _ _ _ _ (start_refused _ _ _ (search rules)) refl refl
+returns-then-start-width g c = refuses _ _ _ _ _ _ (start_refused _ _ _ (search rules)) (rw c.into.ensures) refl
 
 pub returns-in_err-base_hour : goal.returns-in_err-base_hour
 returns-in_err-base_hour g c =
