@@ -1,6 +1,6 @@
 -- Figures and hexadecimal digits, one behind the other. Assumes nothing.
-use Rattle.std.proofs.Common.{◌≡◌, ℕ, zero, suc, ◌+◌, ◌-◌, ◌/◌, ◌%◌, ◌<◌, ◌≤◌, List, [], ◌∷◌, ◌++◌, length, get_or, take, sym, refl, ap, ◌∙◌, append_assoc, append-nil, arith}
-use Rattle.std.proofs.lemmas.List.{take_more, take_all}
+use Rattle.std.proofs.Common.{◌≡◌, ℕ, zero, suc, ◌+◌, ◌-◌, ◌/◌, ◌%◌, ◌<◌, List, [], ◌∷◌, ◌++◌, length, get_or, take, sym, refl, ap, ◌∙◌, append_assoc, append-nil, arith}
+use Rattle.std.proofs.lemmas.List.{take_more}
 use Rattle.words.specs.Hex.{digit, hex}
 use Rattle.words.proofs.Hexed.{hex_push}
 use Rattle.bench_full.specs.Lines.{last_digits}
@@ -29,9 +29,6 @@ hex_more bs pair front one two i lt p e f =
     ∙ (λ j. e j ++ p j)
     ∙ append_assoc front (hex (take i bs)) (digit (get_or bs i 0 / 16) ∷ digit (get_or bs i 0 % 16) ∷ [])
     ∙ ap (λ xs. front ++ xs) (sym (hex_push (take i bs) (get_or bs i 0)) ∙ ap hex (sym (take_more bs i 0 lt)))
-
-pub hex_all : (bs front one : List ℕ) (i : ℕ) → length bs ≤ i → one ≡ front ++ hex (take i bs) → one ≡ front ++ hex bs
-hex_all bs front one i h e = e ∙ ap (λ xs. front ++ hex xs) (take_all i bs h)
 
 -- three lines, pushed part by part
 pub three_lines : (o d n c f s h : List ℕ) → (((((o ++ d ++ n) ++ c) ++ f) ++ (n ++ s)) ++ h) ++ n ≡ (o ++ d ++ n) ++ (c ++ f ++ n) ++ (s ++ h ++ n)

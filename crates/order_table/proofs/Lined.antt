@@ -1,7 +1,7 @@
 -- Lines by their numbers, and the orders in force. Assumes nothing.
 use Rattle.std.proofs.Common.{◌≡◌, ℕ, zero, suc, ◌+◌, ◌-◌, ◌<◌, ◌≤◌, min, Bool, true, false, cond, List, [], ◌∷◌, ◌++◌, map, length, get_or, take, drop, set, Ok, Result, sym, refl, ap, ◌∙◌, subst, append_assoc, arith}
 use mathlib.Core.Option.{none, some}
-use Rattle.std.proofs.lemmas.List.{length-map, length-append, map-append, take-append-drop, drop_more, drop_all, drop-set, take-set, append-nil, length-take, length-take-le, get_or-take, get_or_default, drop-map, drop-set-lt}
+use Rattle.std.proofs.lemmas.List.{length-map, length-append, map-append, take-append-drop, drop_more, drop_all, drop-set, take-set, append-nil, length-take, get_or-take, get_or_default, drop-map, drop-set-lt}
 use Rattle.std.proofs.lemmas.Bool.{cond-true, cond-false}
 use Rattle.faults.specs.declared.grounds.BookFault.TheVariants.{Absent, Undone}
 use Rattle.order.specs.Orders.{Order, AllInRange}
