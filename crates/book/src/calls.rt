@@ -37,8 +37,8 @@ impl<C: Cipher> Book<C> {
         }
     }
 
-    // Sets the book up, as long as it has no line. The four come apart, as they are handed over: each is checked and kept by
-    // itself, so that a struct of them would be taken apart at once.
+    // Sets the book up, as long as it has no line. The four come apart, as they are handed over: each is kept by itself,
+    // and three are checked, so that a struct of them would be taken apart at once.
     pub fn set_up(
         &mut self,
         name: [u8; 8],

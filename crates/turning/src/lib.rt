@@ -31,7 +31,8 @@ fn along<'a, D: Direction, C: Cipher, I: Iterator<Item = &'a Order> + Drop>(
 }
 
 // Turns the front of a register, as wide as the cipher, on by orders. That the name is eight bytes and the front is
-// words is said for the caller. This and the next are the names of `along` for callers, who have slices.
+// words is said for the caller. This and the next are the names of `along` for callers: it takes
+// an iterator, and asks three things of them.
 pub fn turn_on<C: Cipher>(cipher: &C, name: &[u8; 8], orders: &[Order], register: &mut [u32; 8])
     ensures turns { take (C.meaning cipher.now).width register.new ≡ turned (C.meaning cipher.now) name.now (take (C.meaning cipher.now).width register.old) (map view orders.now) }
     ensures rest { drop (C.meaning cipher.now).width register.new ≡ drop (C.meaning cipher.now).width register.old }
