@@ -1,5 +1,5 @@
 -- One call more. Assumes nothing.
-use Rattle.std.proofs.Common.{◌≡◌, ℕ, ◌+◌, ◌<◌, ◌≤◌, List, [], ◌∷◌, ◌++◌, map, length, get_or, take, sym, refl, ap, ◌∙◌, subst}
+use Rattle.std.proofs.Common.{◌≡◌, ℕ, ◌+◌, ◌<◌, List, [], ◌∷◌, ◌++◌, map, length, get_or, take, sym, refl, ap, ◌∙◌, subst}
 use Rattle.std.proofs.Common.{Result}
 use Rattle.faults.specs.declared.grounds.BookFault.{BookFault}
 use Rattle.cipher.specs.Meaning.{Meaning}
@@ -11,7 +11,7 @@ use Rattle.book.specs.declared.state.Book.{Book}
 use Rattle.calls.specs.Runs.{asked, said, Ran}
 use Rattle.calls.specs.declared.call.Call.{Call}
 use Rattle.calls.specs.declared.call.Answer.{Answer}
-use Rattle.std.proofs.lemmas.List.{map_push, take_more, take_all}
+use Rattle.std.proofs.lemmas.List.{map_push, take_more}
 
 after_all_push : (m : Meaning) (cs : List calls.Call) (c : calls.Call) (l : Ledger) → after_all m (cs ++ c ∷ []) l ≡ after m c (after_all m cs l)
 unfolding after_all
@@ -28,10 +28,6 @@ module _ {C : Type 0} (meaning : C → Meaning) (cipher : C) where
   pub ran_none : (cs : List Call) (b : Book C) (as' : List (Result Answer BookFault)) → as' ≡ [] → b.cipher ≡ cipher → told (meaning cipher) b ≡ blank (meaning cipher) → Ran meaning b.cipher (take 0 cs) b as'
   unfolding after_all answers
   ran_none cs b as' e s t = record { same = refl; answers = ap (map said) e; ledger = rw s t }
-
-  -- all the calls are made
-  pub ran_all : (cs : List Call) (i : ℕ) (b : Book C) (as' : List (Result Answer BookFault)) (own : C) → length cs ≤ i → own ≡ cipher → Ran meaning own (take i cs) b as' → Ran meaning cipher cs b as'
-  ran_all cs i b as' own h e r = rw (e, take_all i cs h) at r
 
   pub ran_more : (cs : List Call) (i : ℕ) (d : Call) (b new : Book C) (as' more : List (Result Answer BookFault)) (a : Result Answer BookFault) → i < length cs → Ran meaning cipher (take i cs) b as' → Does meaning (asked (get_or cs i d)) b new (said a) → more ≡ as' ++ a ∷ [] → Ran meaning cipher (take (i + 1) cs) new more
   ran_more cs i d b new as' more a h r did e =

@@ -1,5 +1,5 @@
 use Rattle.std.proofs.Common.{◌≡◌, [], ◌∷◌, ◌++◌, vec_items, rules}
-use Rattle.calls.proofs.Running.{ran_none, ran_more, ran_all}
+use Rattle.calls.proofs.Running.{ran_none, ran_more}
 use Rattle.calls.proofs.runs.replay.Goals as goal
 
 pub loop-c-init : goal.loop-c-init
@@ -9,6 +9,3 @@ pub loop-c-preserved : goal.loop-c-preserved
 loop-c-preserved g c =
     let more : vec_items c.push.new.self ≡ vec_items c.loop-c.out ++ c.apply.result ∷ [] = search rules in
     ran_more g.C.Cipher.meaning c.new-book.result.cipher c.args.calls.now c.loop-c.c-index _ c.loop-c.book c.apply.new.book (vec_items c.loop-c.out) _ c.apply.result c.loop-c-test.true c.loop-c.invariant c.apply.ensures more
-
-pub returns : goal.returns
-returns g c = ran_all g.C.Cipher.meaning c.args.cipher c.args.calls.now c.loop-c.c-index c.loop-c.book _ c.new-book.result.cipher c.loop-c-test.false c.new-book.ensures.same c.loop-c.invariant
