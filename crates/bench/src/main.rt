@@ -27,7 +27,7 @@ fn fill<R: Read>(from: &mut R, buffer: &mut [u8; 512]) -> io::Result<usize>
 fn main(rt: HostRuntime) -> io::Result<()> {
     let mut input = [0u8; 512];
     let count = fill(&mut rt.stdin(), &mut input)?;
-    // no answer is longer than 128 bytes, and a bench is a device too: fixed memory, and how much of it was filled
+    // no answer is longer than 128 bytes: room for it, of which the call tells how much it filled. A `Vec` is no plainer
     let mut answer = [0u8; 128];
     let n = bench(&input[0..count], &mut answer).unwrap();
     let mut out = rt.stdout();

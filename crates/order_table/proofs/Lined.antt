@@ -1,6 +1,7 @@
 -- Lines by their numbers, and the orders in force. Assumes nothing.
 use Rattle.std.proofs.Common.{◌≡◌, ℕ, zero, suc, ◌+◌, ◌-◌, ◌<◌, ◌≤◌, min, Bool, true, false, cond, List, [], ◌∷◌, ◌++◌, map, length, get_or, take, drop, set, Ok, Result, sym, refl, ap, ◌∙◌, subst, append_assoc, arith}
 use mathlib.Core.Option.{none, some}
+use Rattle.std.proofs.Math.Seq.{take-set-lt}
 use Rattle.std.proofs.lemmas.List.{length-map, length-append, map-append, take-append-drop, drop_more, drop_all, drop-set, take-set, append-nil, length-take, get_or-take, get_or_default, drop-map, drop-set-lt}
 use Rattle.std.proofs.lemmas.Bool.{cond-true, cond-false}
 use Rattle.faults.specs.declared.grounds.BookFault.TheVariants.{Absent, Undone}
@@ -122,12 +123,6 @@ marked_is [] i d h = absurd (omega arith)
 marked_is (l ∷ ls) zero d h = refl
 marked_is (l ∷ ls) (suc i) d h = let k : i < length ls = omega arith in ap (λ xs. view l ∷ xs) (marked_is ls i d k)
 
-take_set_in : (n : ℕ) (xs : List code.Line) (i : ℕ) (x : code.Line) → take n (set xs i x) ≡ set (take n xs) i x
-take_set_in zero xs i x = refl
-take_set_in (suc n) [] i x = refl
-take_set_in (suc n) (y ∷ ys) zero x = refl
-take_set_in (suc n) (y ∷ ys) (suc i) x = ap (λ zs. y ∷ zs) (take_set_in n ys i x)
-
 module _ (ls : List code.Line) (i : ℕ) (d : code.Line) (h : i < length ls) (at : d ≡ get_or ls i d) (u : d.undone ≡ false) where
   abbrev x : code.Line
   x = record { order = d.order; undone = true }
@@ -187,16 +182,17 @@ module _ (count : ℕ) (xs us vs : List code.Line) (n i : ℕ) (d e : code.Line)
   at : there ≡ get_or ls i there
   at = get_or_default ls i d there here
 
+  below : i < count
+  below = let k : i < min count (length xs) = subst (λ (m : ℕ). i < m) (length-take count xs) here in omega arith
+
   -- whatever the default, this was read
   read : (x : code.Line) → (get_or xs i x).order ≡ there.order
   read x =
-      let k : i < min count (length xs) = subst (λ (m : ℕ). i < m) (length-take count xs) here in
-      let lt : i < count = omega arith in
-      ap (λ (l : code.Line). l.order) (sym (get_or-take count xs i x lt) ∙ get_or_default ls i x d here)
+      ap (λ (l : code.Line). l.order) (sym (get_or-take count xs i x below) ∙ get_or_default ls i x d here)
 
   written : map view (take count (set xs i (record { order = (get_or xs i e).order; undone = true }))) ≡ map view (set ls i after)
   written =
-      ap (map view) (take_set_in count xs i (record { order = (get_or xs i e).order; undone = true }))
+      ap (map view) (take-set-lt count xs i (record { order = (get_or xs i e).order; undone = true }) below)
       ∙ ap (λ o. map view (set ls i (record { order = o; undone = true }))) (read e)
 
   pub marks : map view (take count (set xs i (record { order = (get_or xs i e).order; undone = true }))) ≡ marked (map view ls) n

@@ -1,5 +1,5 @@
 -- How many blocks a message has, what the last one holds, and that blocks tell messages apart. Assumes nothing.
-use Rattle.std.proofs.Common.{◌≡◌, ℕ, zero, suc, ◌+◌, ◌-◌, ◌*◌, ◌/◌, ◌%◌, ◌^◌, ◌<◌, ◌≤◌, List, [], ◌∷◌, ◌++◌, length, get_or, drop, sym, refl, ap, ◌∙◌, arith, lit<, length-drop, take-append-drop, get_or-drop, get_or-take, get_or-append-add}
+use Rattle.std.proofs.Common.{◌≡◌, ℕ, zero, suc, ◌+◌, ◌*◌, ◌/◌, ◌%◌, ◌^◌, ◌<◌, ◌≤◌, List, [], ◌∷◌, ◌++◌, length, get_or, drop, sym, refl, ap, ◌∙◌, arith, lit<, length-drop, take-append-drop, get_or-drop, get_or-take, get_or-append-add}
 use mathlib.Core.List.{head-eq_of_cons-eq, tail-eq_of_cons-eq}
 use Rattle.words.specs.Words.{Below, words}
 use Rattle.words.proofs.Bytes.{word_joined, length_words, words_append, words_inj, append_split}
@@ -21,15 +21,9 @@ pub padded_split : (msg : List ℕ) → padded msg ≡ front msg ++ field (lengt
 unfolding padded
 padded_split msg = refl
 
-whole : (n p : ℕ) → p ≡ n + (119 - n % 64) % 64 + 9 → (p ≡ 64 * (p / 64)) × (p / 64 ≡ (n + 72) / 64)
-whole n p e = (omega arith, omega arith)
-
-padded_size : (msg : List ℕ) → length (padded msg) ≡ length msg + (119 - length msg % 64) % 64 + 9
-padded_size msg = omega (arith, length_padded msg, length_front msg)
-
 -- the number of blocks by the number of bytes
 pub counted : (msg : List ℕ) → block_count msg ≡ (length msg + 72) / 64
-counted msg = (whole (length msg) (length (padded msg)) (padded_size msg)).1
+counted msg = omega (arith, padded_whole msg, length_padded msg, length_front msg)
 
 -- where the length field begins
 pub front_ends : (msg : List ℕ) → length (front msg) + 8 ≡ 64 * block_count msg
