@@ -1,6 +1,7 @@
 ghost use Rattle.std.specs.Prelude.{◌≡◌, ◌≤◌, length};
 ghost use Rattle.words.specs.Buffer.{Fills};
 ghost use Rattle.book.specs.Told.{told};
+ghost use Rattle.bench_io.specs.Lines.{printed as printed_line};
 ghost use Rattle.bench_full.specs.Bench.{Shows, over, found, outcome, bench as printed_of};
 
 use crate::findings::Findings;
@@ -55,11 +56,20 @@ fn answer(input: &[u8]) -> Result<Findings, BenchFault>
     }
 }
 
+// The lines of what is found in an input, or its first fault: what is printed of either is the bench's.
+#[tactic(auto, unfolding(crate::specs::Bench::bench))]
+fn lines(input: &[u8]) -> Result<Line, BenchFault>
+    ensures { printed_line result ≡ printed_of input.now }
+{
+    let found = answer(input)?;
+    Ok(Line::from(found))
+}
+
 // Writes what the bench prints of an input to the front of a buffer, and answers its length. It stands beside that of
 // `bench_run` until it takes the other's place.
 pub fn bench(input: &[u8], out: &mut [u8]) -> Result<usize, BufferFault>
     ensures fills { Fills (printed_of input.now) out.old out.new result }
     ensures short { length (printed_of input.now) ≤ 128 }
 {
-    print(answer(input).map(Line::from), out)
+    print(lines(input), out)
 }
